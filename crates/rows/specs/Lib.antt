@@ -1,0 +1,5 @@
+pub mod Limits
+pub mod Tests
+pub mod Kinds
+pub mod Refusals
+pub mod Words
