@@ -1,0 +1,3 @@
+pub mod Heap
+mod Hole
+mod Calls
