@@ -1,0 +1,10 @@
+pub mod Bytes
+pub mod Records
+pub mod Faults
+pub mod Heads
+pub mod Writing
+pub mod Reading
+pub mod Opening
+pub mod Views
+pub mod Files
+pub mod RoundTrip
