@@ -1,0 +1,11 @@
+pub mod State
+pub mod Answers
+pub mod Tables
+pub mod Steps
+pub mod Planes
+pub mod Histories
+pub mod Runs
+pub mod Members
+pub mod Fitting
+pub mod Claims
+pub mod Llref
