@@ -1,0 +1,3 @@
+mod Earlier
+mod Firsts
+mod Taking
