@@ -1,0 +1,5 @@
+mod Sooner
+mod Firsts
+mod Listing
+mod Places
+mod Gathering
