@@ -1,0 +1,15 @@
+pub mod Weights
+pub mod Marks
+pub mod Shifts
+pub mod Admissions
+pub mod Withdrawals
+pub mod Releases
+pub mod Writes
+pub mod Free
+pub mod Looks
+pub mod Moves
+pub mod Distances
+pub mod Chooses
+pub mod Fitting
+pub mod Courses
+pub mod Ahead
