@@ -1,0 +1,11 @@
+pub mod Words
+pub mod Earliest
+pub mod TableRows
+pub mod Through
+pub mod Reached
+pub mod Onward
+pub mod Splits
+pub mod Periods
+pub mod Headed
+pub mod Outcome
+pub mod Lines

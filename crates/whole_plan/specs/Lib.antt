@@ -1,0 +1,4 @@
+pub mod Planning
+pub mod Ends
+pub mod Serving
+pub mod Answering
