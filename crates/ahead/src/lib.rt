@@ -1,6 +1,8 @@
 // The releases ahead of a tick, in order.
 // Each place of the list holds the first release after the one before it; the queue's memory is lent, and left in any order.
 // Whether the rows are those of a board is left to the crates above.
+#![tactic(auto)]
+
 ghost use Rattle.std.specs.Prelude.{◌≡◌, ℕ, ◌^◌, ◌<◌, ◌≤◌, true, List, map, length, None, MatchResult};
 ghost use Rattle.std.specs.List.Sorted.{IsPermutation};
 ghost use Rattle.std.specs.List.{AllByRecursion as All};

@@ -2,6 +2,8 @@
 // what is told with the file `stdout`.
 // Where a call is refused, the numbers of the board or plane, all memory that it was lent, its row and its buffer are
 // compared with what they were, and a line says so if anything has changed.
+#![tactic(auto)]
+
 use cases::script::Script;
 use cases::scripts;
 use std::io;

@@ -2,6 +2,8 @@
 // All of them come out by the model's definitions, in one theorem over the whole list; a script of calls is one of the
 // runs of which the model promises what holds after them.
 // That the code gives the same answers is left to the program that runs these scripts on it.
+#![tactic(auto)]
+
 ghost use Rattle.cases.specs.Playing.{ScriptsAreRuns};
 ghost use Rattle.cases.specs.Worked.{WorkedCasesComeOut, WorkedRunsAreCalls, WorkedReleasesAreAhead};
 

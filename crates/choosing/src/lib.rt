@@ -1,6 +1,8 @@
 // Who runs: the first tokens of a plane, as many as there are processors, by a rule's key and then by tag.
 // It answers the last one chosen, and every token that is active and not after it is chosen.
 // Which processor a chosen token gets, and how far it runs, is left to the crates above.
+#![tactic(auto)]
+
 ghost use Rattle.std.specs.Prelude.{◌≡◌, ◌<◌, ◌≤◌, min, not, ◌&&◌, List, ◌++◌, length, take, Some, MatchOption};
 ghost use Rattle.rows.specs.declared.memory.Token.{Token as Row};
 ghost use Rattle.rows.specs.Limits.{most_processors};

@@ -1,5 +1,7 @@
 // Plans a table file from standard input, and writes the plan file to standard output.
 // Any bytes end in a plan or in one line that says why not; all bytes are those of `answer_bytes`.
+#![tactic(auto)]
+
 use std::io::{Read, Write};
 use whole_plan::answer::answer_bytes;
 

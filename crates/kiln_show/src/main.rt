@@ -1,5 +1,7 @@
 // Shows a plan file from standard input as text that a person reads.
 // Any bytes end in text: the plan, or the fault that stopped the reading and the byte where it stands.
+#![tactic(auto)]
+
 use plan_file::reader::PlanReader;
 use rows::refusal::Refusal;
 use rows::row::Row;

@@ -1,6 +1,8 @@
 // The theory of the planner: what each call on a board or a plane does (specs/, to be read from State to Llref), and what follows.
 // It promises what holds after every run of calls, that a finish ends its plane, and that "largest first" is LLREF.
 // Code that does what is defined here is left to the crates above.
+#![tactic(auto)]
+
 ghost use Rattle.model.specs.Claims.{RunsSound};
 ghost use Rattle.model.specs.Fitting.{FinishOver};
 ghost use Rattle.model.specs.Llref.{LargestFirstIsLlref};

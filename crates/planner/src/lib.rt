@@ -1,6 +1,8 @@
 // Boards and planes, and every call on them.
 // Each call does what the model defines for it, or refuses and leaves all as it was.
 // Files and whole plans are left to the crates above.
+#![tactic(auto)]
+
 pub mod board;
 pub mod event;
 mod fits;

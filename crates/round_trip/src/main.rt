@@ -1,4 +1,6 @@
 // Plans the example tables, reads each plan to its end, and writes it again.
+#![tactic(auto)]
+
 use plan_file::whole::{count_records, rewrite};
 use rows::refusal::Refusal;
 use std::io;

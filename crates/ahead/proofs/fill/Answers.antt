@@ -10,10 +10,10 @@ loop-place-preserved c =
     let l = c.loop-place in
     let i = l.place-index in
     let hs = held l.queue in
-    let hs' = held c.replace-first.new.self in
+    let hs' = held c.replace_first.new.self in
     let x = c.in-Some.first in
     let told = c.in-Some.ensures in
-    let put = at_some _ x _ _ (c.replace-first.ensures.answer ∙ sym told.answer) c.replace-first.ensures.after in (
+    let put = at_some _ x _ _ (c.replace_first.ensures.answer ∙ sym told.answer) c.replace_first.ensures.after in (
       omega (arith, length_permutation _ _ put.items, l.invariant.0),
       stays_near i hs hs' x (omega arith) (sym told.answer) put.items l.invariant.1,
       λ ts tick table heap waiting.

@@ -15,7 +15,7 @@ pub fill-requires : goal.fill-requires
 fill-requires c =
     let rows = c.args.rows.now in
     record {
-      some = omega (arith, length_permutation _ _ c.gather.ensures.items, length-map rows (first_due c.args.tick), false-eqb (length rows) 0 c.if-is-empty.ensures);
+      some = omega (arith, length_permutation _ _ c.gather.ensures.items, length-map rows (first_due c.args.tick), false-eqb (length rows) 0 c.if-is_empty.ensures);
       near = c.gather.ensures.near;
       few = omega arith;
     }
@@ -24,9 +24,9 @@ pub returns : goal.returns
 returns c =
     let rows = c.args.rows.now in
     let tick = c.args.tick in
-    let up : rising (tags rows) ≡ true = sym c.if-not-is-rising.ensures in
-    let ok : all (timely tick) rows ≡ true = sym c.if-not-are-timely.ensures in
-    let some : 0 < length rows = omega (arith, false-eqb (length rows) 0 c.if-is-empty.ensures) in
+    let up : rising (tags rows) ≡ true = sym c.if-not-is_rising.ensures in
+    let ok : all (timely tick) rows ≡ true = sym c.if-not-are_timely.ensures in
+    let some : 0 < length rows = omega (arith, false-eqb (length rows) 0 c.if-is_empty.ensures) in
     record {
       answer = sym (none_refused _ _ _ _ _ _ _ (and_from _ _ up ok) (lt-ltb 0 (length rows) some) (and_from _ _ (le-leb (length c.args.places.now) 65536 (omega arith)) (le-leb (length rows) (length c.args.memory.now) (omega arith))));
       list = c.fill.ensures rows tick (table_from tick rows up ok) c.gather.ensures.order (waiting_first tick rows (held c.gather.new.queue) up ok c.gather.ensures.items);

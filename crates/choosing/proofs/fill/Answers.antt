@@ -11,7 +11,7 @@ use Rattle.choosing.specs.Keeping.{last_first, KeepsFirst}
 use Rattle.choosing.proofs.Firsts.{no_elements, keeps_none, passed, entered}
 use Rattle.choosing.proofs.Taking.{accepted}
 use Rattle.choosing.proofs.fill.Goals as goal
-use Rattle.choosing.proofs.fill.Goals.{else-token-gt0-via-then-token-gt0+else-is-err, else-token-gt0-via-else-token-gt0}
+use Rattle.choosing.proofs.fill.Goals.{else-token-gt0-via-then-token-gt0+else-is_err, else-token-gt0-via-else-token-gt0}
 
 abbrev blank : Token
 blank = record { tag = 0; left = 0; processor = 0 }
@@ -33,9 +33,9 @@ loop-i-preserved g c =
     let hs = held l.best in
     let was = l.invariant.2 in
     let one_more = sym (take_more ts i blank (omega arith)) in elim c.else-token-gt0.branch [
-      | else-token-gt0-via-then-token-gt0+else-is-err w ↦
+      | else-token-gt0-via-then-token-gt0+else-is_err w ↦
           let hs' = held w.insert.new.self in
-          let put = accepted _ _ _ _ w.insert.ensures.answer (sym w.if-is-err.ensures.value) w.insert.ensures.after in
+          let put = accepted _ _ _ _ w.insert.ensures.answer (sym w.if-is_err.ensures.value) w.insert.ensures.after in
           let room : length hs < m = omega (arith, eqb-false (length hs) (length l.best.memory.now) put.0, was.size, l.invariant.0) in
           let moved = subst (λ e. IsPermutation (record { 0 = e } ∷ hs) hs') w.of.ensures put.1.items in
           let on : active t ≡ true = lt-ltb 0 t.left w.if-token-gt0.true in

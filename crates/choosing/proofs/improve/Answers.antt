@@ -11,7 +11,7 @@ use Rattle.choosing.specs.Keeping.{last_first, KeepsFirst}
 use Rattle.choosing.proofs.Firsts.{comes, stays, some_full, last_of_full, top_there}
 use Rattle.choosing.proofs.Taking.{at_some}
 use Rattle.choosing.proofs.improve.Goals as goal
-use Rattle.choosing.proofs.improve.Goals.{then-is-up-to, else-is-up-to}
+use Rattle.choosing.proofs.improve.Goals.{then-is_up_to, else-is_up_to}
 
 abbrev blank : Token
 blank = record { tag = 0; left = 0; processor = 0 }
@@ -29,20 +29,20 @@ loop-token-preserved g c =
     let heap = l.invariant.0 in
     let is_last = l.invariant.1 in
     let full = some_full m hs l.last is_last in
-    let one_more : (seen : List Token) → (seen ++ take i ts) ++ t ∷ [] ≡ seen ++ take (i + 1) ts = λ seen. append_assoc seen (take i ts) (t ∷ []) ∙ ap (λ ss. seen ++ ss) (sym (take_more ts i blank (omega arith))) in elim c.if-is-up-to.branch [
-      | then-is-up-to w ↦
-          let hs' = held w.replace-first.new.self in
+    let one_more : (seen : List Token) → (seen ++ take i ts) ++ t ∷ [] ≡ seen ++ take (i + 1) ts = λ seen. append_assoc seen (take i ts) (t ∷ []) ∙ ap (λ ss. seen ++ ss) (sym (take_more ts i blank (omega arith))) in elim c.if-is_up_to.branch [
+      | then-is_up_to w ↦
+          let hs' = held w.replace_first.new.self in
           let old : Reverse Entry = record { 0 = l.last } in
           let is-top = top_there m hs l.last is_last in
-          let put = at_some _ old _ _ (w.replace-first.ensures.answer ∙ is-top) w.replace-first.ensures.after in
+          let put = at_some _ old _ _ (w.replace_first.ensures.answer ∙ is-top) w.replace_first.ensures.after in
           let moved = subst (λ e. IsPermutation (record { 0 = e } ∷ hs) (old ∷ hs')) w.of.ensures put.items in
-          rw (w.best-is, w.last_is) (
+          rw (w.best-is, w.last-is) (
             put.order last_first heap,
-            last_of_full m hs' w.top-or-last.result l.last (omega (arith, length_permutation _ _ moved, full.0)) full.1 w.top-or-last.ensures,
-            λ seen kept. subst (λ ss. KeepsFirst m key span ss hs') (one_more seen) (comes m key span (seen ++ take i ts) t hs (l.invariant.2 seen kept) l.last old hs' heap is_last is-top (sym w.if-is-up-to.ensures) moved),
+            last_of_full m hs' w.top_or-last.result l.last (omega (arith, length_permutation _ _ moved, full.0)) full.1 w.top_or-last.ensures,
+            λ seen kept. subst (λ ss. KeepsFirst m key span ss hs') (one_more seen) (comes m key span (seen ++ take i ts) t hs (l.invariant.2 seen kept) l.last old hs' heap is_last is-top (sym w.if-is_up_to.ensures) moved),
           )
-      | else-is-up-to w ↦
-          rw (w.best-is, w.last_is) (heap, is_last, λ seen kept. subst (λ ss. KeepsFirst m key span ss hs) (one_more seen) (stays m key span (seen ++ take i ts) t hs (l.invariant.2 seen kept) l.last heap is_last (sym w.if-is-up-to.ensures)))
+      | else-is_up_to w ↦
+          rw (w.best-is, w.last-is) (heap, is_last, λ seen kept. subst (λ ss. KeepsFirst m key span ss hs) (one_more seen) (stays m key span (seen ++ take i ts) t hs (l.invariant.2 seen kept) l.last heap is_last (sym w.if-is_up_to.ensures)))
     ]
 
 pub returns : goal.returns

@@ -9,8 +9,8 @@ use Rattle.choosing.proofs.last_chosen.Goals as goal
 all_seen : (k n : ℕ) → (k < n → ⊥) → n ≤ k
 all_seen k n h = omega arith
 
-pub returns-in-default : goal.returns-in-default
-returns-in-default g c = λ some.
+pub returns-in_default : goal.returns-in_default
+returns-in_default g c = λ some.
     let key = g.R.Rule.ranks c.args.rule.now in
     let span = c.args.span in
     let ts = c.args.tokens.now in
@@ -18,7 +18,7 @@ returns-in-default g c = λ some.
     let told = c.fill-seen.ensures in
     let hs = held c.fill-seen.new.best in
     let places : m ≡ min c.args.processors most_processors = ap length c.open-best.ensures.memory ∙ length-take (c.min.result - 0) _ ∙ omega (arith, c.min.ensures) in
-    let none : last_kept m hs ≡ None = ap (λ k. last_kept k hs) (sym told.size) ∙ sym c.last_kept.ensures ∙ c.in-default.is in
+    let none : last_kept m hs ≡ None = ap (λ k. last_kept k hs) (sym told.size) ∙ sym c.last_kept.ensures ∙ c.in_default.is in
     let all : KeepsFirst m key span ts hs = subst (λ ss. KeepsFirst m key span ss hs) (take_all c.fill-seen.result ts (all_seen c.fill-seen.result (length ts) (λ lt. not_none m hs (told.full lt) (omega arith) none))) told.kept in
     subst (λ k. Picks k key span ts None) places (subst (Picks m key span ts) none (picks m key span ts hs (omega arith) told.order all))
 

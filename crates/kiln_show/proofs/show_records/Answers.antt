@@ -11,6 +11,6 @@ loop-head-smaller c =
     let a : Ok (Some c.in-Ok-Some.head) ≡ next_answer r.processors (drop r.place r.bytes.now) = cc e.answer in
     let k = some_took r.processors (drop r.place r.bytes.now) c.in-Ok-Some.head a in
     let z = simp length-drop at k.1 in
-    let p : c.next-record.new.self.place ≡ r.place + record_size r.processors = simp k.0 at e.moves in
-    let b : length c.next-record.new.self.bytes.now ≡ length r.bytes.now = ap (λ x. length x.now) e.same.0 in
+    let p : c.next_record.new.self.place ≡ r.place + record_size r.processors = simp k.0 at e.moves in
+    let b : length c.next_record.new.self.bytes.now ≡ length r.bytes.now = ap (λ x. length x.now) e.same.0 in
     omega arith

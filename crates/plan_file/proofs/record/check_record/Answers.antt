@@ -3,8 +3,8 @@ use Rattle.std.proofs.lemmas.List.{take_all, length-drop}
 use Rattle.std.proofs.lemmas.Bool.Decides.{nat_tests}
 use Rattle.plan_file.proofs.record.check_record.Goals as goal
 
-pub returns-then-not-all-zero : goal.returns-then-not-all-zero
-returns-then-not-all-zero c =
+pub returns-then-not-all_zero : goal.returns-then-not-all_zero
+returns-then-not-all_zero c =
     let l : length c.args.row.now.places ≡ 16 = search rules in
     let t : take (16 - c.from-m.result) (drop c.from-m.result c.args.row.now.places) ≡ drop c.from-m.result c.args.row.now.places = take_all (16 - c.from-m.result) (drop c.from-m.result c.args.row.now.places) (simp length-drop (omega arith))
     in grind (arith, nat_tests)

@@ -7,5 +7,5 @@ use Rattle.plan_file.proofs.record.put_record.Goals as goal
 pub returns : goal.returns
 returns c =
     let ts = c.args.tags.now in
-    let b = lent_behind (be64 c.args.head.length ++ c.args.head.kind ∷ []) c.args.buf.now c.put-head.new.buf (tag_bytes ts) c.put-tags.new.buf 9 (2 * length ts) refl c.put-head.ensures c.put-tags.ensures in
+    let b = lent_behind (be64 c.args.head.length ++ c.args.head.kind ∷ []) c.args.buf.now c.put_head.new.buf (tag_bytes ts) c.put_tags.new.buf 9 (2 * length ts) refl c.put_head.ensures c.put_tags.ensures in
     record { bytes = λ _. b; short = λ h. absurd (omega arith) }

@@ -5,7 +5,7 @@ use Rattle.plan_file.proofs.record.put_tags.Goals as goal
 
 pub loop-i-preserved : goal.loop-i-preserved
 loop-i-preserved c =
-    simp (c.to-be-bytes.ensures, c.loop-i.invariant)
+    simp (c.to_be_bytes.ensures, c.loop-i.invariant)
     (tags_more c.args.tags.now c.args.buf.now c.loop-i.i (omega arith) (omega arith))
 
 pub returns : goal.returns

@@ -10,29 +10,29 @@ use Rattle.plan_file.proofs.ReadOn.{Took, ended_on, failed_on, of_file}
 use Rattle.plan_file.proofs.Copied.{reader_took}
 use Rattle.plan_file.proofs.whole.count_records.Goals as goal
 
-took : (c : goal.In-Some) → Took (file_processors c.args.file.now) c.args.file.now c.loop-count.reader.place c.next-record.new.self.place c.in-Some.field-0
+took : (c : goal.In-Some) → Took (file_processors c.args.file.now) c.args.file.now c.loop-count.reader.place c.next_record.new.self.place c.in-Some.field-0
 took c =
     let file = c.args.file.now in
     let r = c.loop-count.reader in
     let i = c.loop-count.invariant in
-    let e = c.in-ok-next-record.ensures in
-    reader_took file r.bytes.now r.place c.next-record.new.self.place r.processors c.in-Some.field-0 i.1 i.2 (ap Ok (sym c.in-Some.is) ∙ e.answer) e.moves
+    let e = c.in_ok-next_record.ensures in
+    reader_took file r.bytes.now r.place c.next_record.new.self.place r.processors c.in-Some.field-0 i.1 i.2 (ap Ok (sym c.in-Some.is) ∙ e.answer) e.moves
 
-pub returns-in-err-next-record : goal.returns-in-err-next-record
-returns-in-err-next-record c =
+pub returns-in_err-next_record : goal.returns-in_err-next_record
+returns-in_err-next_record c =
     let file = c.args.file.now in
     let m = file_processors file in
     let r = c.loop-count.reader in
     let i = c.loop-count.invariant in
-    let p = err_from_is_err_and c.from-residual-in-err-next-record.result c.from-residual-in-err-next-record.ensures.1 in
-    let f = failed_on m file r.place c.in-err-next-record.field-0.0
-    (c.in-err-next-record.ensures.answer ∙ of_file (λ n bs. next_answer n (drop r.place bs)) m r.processors file r.bytes.now i.1 i.2) in
+    let p = err_from_is_err_and c.from_residual-in_err-next_record.result c.from_residual-in_err-next_record.ensures.1 in
+    let f = failed_on m file r.place c.in_err-next_record.field-0.0
+    (c.in_err-next_record.ensures.answer ∙ of_file (λ n bs. next_answer n (drop r.place bs)) m r.processors file r.bytes.now i.1 i.2) in
     rw (p.1, p.2)
     (sym (ap (λ g. answered (or_else g (records_fault m (drop 10 file))) (file_records file)) i.0
     ∙ ap (λ g. answered g (file_records file)) (sym i.3 ∙ f)))
 
-pub overflow-add-count : goal.overflow-add-count
-overflow-add-count c =
+pub overflow_add-count : goal.overflow_add-count
+overflow_add-count c =
     let file = c.args.file.now in
     let m = file_processors file in
     let i = c.loop-count.invariant.4 in
@@ -52,7 +52,7 @@ loop-count-smaller c =
 pub loop-count-preserved : goal.loop-count-preserved
 loop-count-preserved c =
     let i = c.loop-count.invariant in
-    let e = c.in-ok-next-record.ensures in
+    let e = c.in_ok-next_record.ensures in
     let t = took c in
     let k = t.counts in
     let j = i.4 in
@@ -64,9 +64,9 @@ returns c =
     let m = file_processors file in
     let r = c.loop-count.reader in
     let i = c.loop-count.invariant in
-    let e = c.in-ok-next-record.ensures in
+    let e = c.in_ok-next_record.ensures in
     let k = ended_on m file r.place
-    (ap Ok (sym c.in-default.is) ∙ e.answer ∙ of_file (λ n bs. next_answer n (drop r.place bs)) m r.processors file r.bytes.now i.1 i.2) in
+    (ap Ok (sym c.in_default.is) ∙ e.answer ∙ of_file (λ n bs. next_answer n (drop r.place bs)) m r.processors file r.bytes.now i.1 i.2) in
     let z = k.2 in
     let j = i.4 in
     ap Ok (omega arith)

@@ -8,8 +8,8 @@ use Rattle.planner.proofs.Courses.{course_none, course_is, course_over, room, fa
 use Rattle.planner.proofs.Racing.{Racing, racing_none, goes_on, units_is, tags_long}
 use Rattle.planner.proofs.running.run_line.Goals as goal
 
-pub row-of-places-requires : goal.row-of-places-requires
-row-of-places-requires g c = on_processors c.args.processors c.args.span c.args.rows.now c.requires.sound
+pub row_of-places-requires : goal.row_of-places-requires
+row_of-places-requires g c = on_processors c.args.processors c.args.span c.args.rows.now c.requires.sound
 
 pub loop-left-init : goal.loop-left-init
 loop-left-init g c =
@@ -19,10 +19,10 @@ loop-left-init g c =
     let ts = c.args.rows.now in
     racing_none m key law c.args.span ts c.args.plan.now c.requires.sound
     (course_none m key law (length ts) c.args.span ts c.args.plan.now (first m (length ts) c.args.span ts refl c.requires.sound c.requires.short key law))
-    c.gather-first.new.line c.gather-first.result c.row-of-places.result c.gather-first.ensures.within c.gather-first.ensures.lines c.row-of-places.ensures
+    c.gather-first.new.line c.gather-first.result c.row_of-places.result c.gather-first.ensures.within c.gather-first.ensures.lines c.row_of-places.ensures
 
-pub step-line-step-requires : goal.step-line-step-requires
-step-line-step-requires g c =
+pub step_line-step-requires : goal.step_line-step-requires
+step_line-step-requires g c =
     let l = c.loop-left in
     record {
       kept = subst (λ d. Kept (map (seated l.places) l.rows) l.rows d l.places) (sym (take_rest l.line l.first)) l.invariant.kept;
@@ -31,8 +31,8 @@ step-line-step-requires g c =
       short = l.invariant.course.going.short;
     }
 
-pub slice-bounds-put-record-count : goal.slice-bounds-put-record-count
-slice-bounds-put-record-count g c =
+pub slice_bounds-put_record-count : goal.slice_bounds-put_record-count
+slice_bounds-put_record-count g c =
     let l = c.loop-left in
     omega (
       arith,
@@ -40,8 +40,8 @@ slice-bounds-put-record-count g c =
           l.left (map (seated l.places) l.rows) l.plan l.count l.at c.requires.room c.loop-left-test.true l.invariant.course,
     )
 
-pub slice-bounds-put-record-start : goal.slice-bounds-put-record-start
-slice-bounds-put-record-start g c =
+pub slice_bounds-put_record-start : goal.slice_bounds-put_record-start
+slice_bounds-put_record-start g c =
     let l = c.loop-left in
     let there : l.at ≤ length l.plan = omega (
       arith,
@@ -57,7 +57,7 @@ loop-left-smaller g c =
     let law = g.met.R.Rule.lawful c.args.rule.now in
     let ts = c.args.rows.now in
     let l = c.loop-left in
-    let r = c.step-line-step in
+    let r = c.step_line-step in
     omega (
       arith,
       units_is m key law c.args.span ts c.args.plan.now l.left l.rows l.line l.first l.places l.plan l.count l.at c.requires.room c.loop-left-test.true c.requires.sound.few l.invariant
@@ -73,7 +73,7 @@ loop-left-preserved g c =
     let ts = c.args.rows.now in
     let buffer = c.args.plan.now in
     let l = c.loop-left in
-    let r = c.step-line-step in
+    let r = c.step_line-step in
     let units = r.result.event.length in
     let told : Strides m key l.left (map (seated l.places) l.rows) r.new.rows (drop r.result.freed r.new.line) r.new.places units c.number.result =
     subst (Strides m key l.left (map (seated l.places) l.rows) r.new.rows (drop r.result.freed r.new.line) r.new.places units) (sym c.number.ensures) (r.ensures.step key law c.requires.by) in
@@ -83,8 +83,8 @@ loop-left-preserved g c =
     let enough = room m key law (length ts) c.args.span ts buffer l.left (map (seated l.places) l.rows) l.plan l.count l.at c.requires.room c.loop-left-test.true l.invariant.course in
     goes_on m key law c.args.span ts buffer l.left l.rows l.line l.first l.places l.plan l.count l.at c.requires.room c.loop-left-test.true c.requires.sound.few l.invariant
     r.new.rows r.new.line r.new.places r.result.freed units c.number.result told
-    c.put-record.new.buf _ refl r.ensures.freed long
-    (c.put-record.ensures.bytes (omega (arith, tags, enough, ap length (take_rest l.plan l.at), length-drop l.at l.plan)))
+    c.put_record.new.buf _ refl r.ensures.freed long
+    (c.put_record.ensures.bytes (omega (arith, tags, enough, ap length (take_rest l.plan l.at), length-drop l.at l.plan)))
 
 pub returns : goal.returns
 returns g c =

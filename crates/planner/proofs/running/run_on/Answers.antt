@@ -12,7 +12,7 @@ seat-requires c =
     record {
       run = same_places (settled c.args.places.now c.args.units) run rows c.settle-settled.new.rows told.rows run c.requires.run;
       few = c.requires.few;
-      low = spare_low (λ p. not (get_or c.settle-settled.result.taken p false)) c.args.processors c.free-processors-spare.result c.requires.within c.free-processors-spare.ensures;
+      low = spare_low (λ p. not (get_or c.settle-settled.result.taken p false)) c.args.processors c.free_processors-spare.result c.requires.within c.free_processors-spare.ensures;
       on = settled_on c.args.places.now c.args.units rows c.settle-settled.new.rows run c.requires.run told.rows;
     }
 
@@ -44,7 +44,7 @@ returns-else-settled-eq0 c =
         mid = mid;
         settles = told.rows;
         seats = c.seat.ensures.rows m
-            (λ j. c.free-processors-spare.ensures j ∙ ap (λ l. get_or l j 0) (unmarked_all m (those mid run) c.settle-settled.result.taken c.requires.within told.taken));
+            (λ j. c.free_processors-spare.ensures j ∙ ap (λ l. get_or l j 0) (unmarked_all m (those mid run) c.settle-settled.result.taken c.requires.within told.taken));
         next_is = c.seat.ensures.places;
         left_is = told.kept;
       };

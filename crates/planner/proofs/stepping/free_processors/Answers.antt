@@ -16,9 +16,9 @@ loop-i-preserved c =
     let low : i < 16 = omega (arith, c.requires) in
     elim c.if-not-taken-i.branch [
       | then-not-taken-i w ↦
-          rw (w.free_is, w.count-is) (filled_more test i c.loop-i.count c.loop-i.free low (ap not w.if-not-taken-i.true) c.loop-i.invariant)
+          rw (w.free-is, w.count-is) (filled_more test i c.loop-i.count c.loop-i.free low (ap not w.if-not-taken-i.true) c.loop-i.invariant)
       | else-not-taken-i w ↦
-          rw (w.free_is, w.count-is) (filled_same test i c.loop-i.count c.loop-i.free (ap not w.if-not-taken-i.false) c.loop-i.invariant)
+          rw (w.free-is, w.count-is) (filled_same test i c.loop-i.count c.loop-i.free (ap not w.if-not-taken-i.false) c.loop-i.invariant)
     ]
 
 pub returns : goal.returns

@@ -4,7 +4,7 @@ use Rattle.rows.specs.declared.memory.Token.{Token}
 use Rattle.planner.specs.Looking.{picked}
 use Rattle.planner.proofs.Looks.{blank, seen_is, seen_none, seen_chosen, seen_other, seen_marks, seen_least, seen_most}
 use Rattle.planner.proofs.stepping.look_over.Goals as goal
-use Rattle.planner.proofs.stepping.look_over.Goals.{then-is-chosen, else-is-chosen}
+use Rattle.planner.proofs.stepping.look_over.Goals.{then-is_chosen, else-is_chosen}
 
 pub loop-token-init : goal.loop-token-init
 loop-token-init g c = seen_none (picked (g.R.Rule.ranks c.args.rule.now) c.args.span c.args.last) c.args.span c.args.rows.now
@@ -19,11 +19,11 @@ loop-token-preserved g c =
     let rows = c.args.rows.now in
     let inside : l.token-index < length rows = omega arith in
     let on : (get_or rows l.token-index blank).processor < 17 = omega (arith, All-get_or (λ x. x.processor ≤ 16) rows l.token-index blank inside c.requires) in
-    elim c.if-is-chosen.branch [
-      | then-is-chosen w ↦ seen_is picks c.args.span rows w.taken-is (w.least_is ∙ w.min-least.ensures) w.most_is
-          (seen_chosen picks c.args.span rows l.token-index l.taken l.least l.most inside l.invariant (sym w.if-is-chosen.ensures) on)
-      | else-is-chosen w ↦ seen_is picks c.args.span rows w.taken-is w.least_is (w.most_is ∙ w.max-most.ensures)
-          (seen_other picks c.args.span rows l.token-index l.taken l.least l.most inside l.invariant (sym w.if-is-chosen.ensures))
+    elim c.if-is_chosen.branch [
+      | then-is_chosen w ↦ seen_is picks c.args.span rows w.taken-is (w.least-is ∙ w.min-least.ensures) w.most-is
+          (seen_chosen picks c.args.span rows l.token-index l.taken l.least l.most inside l.invariant (sym w.if-is_chosen.ensures) on)
+      | else-is_chosen w ↦ seen_is picks c.args.span rows w.taken-is w.least-is (w.most-is ∙ w.max-most.ensures)
+          (seen_other picks c.args.span rows l.token-index l.taken l.least l.most inside l.invariant (sym w.if-is_chosen.ensures))
     ]
 
 pub returns : goal.returns

@@ -4,7 +4,7 @@ use Rattle.rows.specs.declared.memory.Token.{Token}
 use Rattle.planner.specs.Looking.{picked}
 use Rattle.planner.proofs.Moves.{moving_none, moving_is, moving_all, room, reaches, on_board, spare_number, move_on, move_off, move_not}
 use Rattle.planner.proofs.stepping.run.Goals as goal
-use Rattle.planner.proofs.stepping.run.Goals.{then-is-chosen, then-token-eq0, else-token-eq0, else-is-chosen}
+use Rattle.planner.proofs.stepping.run.Goals.{then-is_chosen, then-token-eq0, else-token-eq0, else-is_chosen}
 
 pub loop-token-init : goal.loop-token-init
 loop-token-init g c =
@@ -18,26 +18,26 @@ bounds-choice-turn g c =
     let ts = c.args.rows.now in
     let l = c.loop-token in
     let inside : l.token-index < length ts = omega arith in
-    room a.processors picks a.event.length a.spare ts c.requires l.token-index l.rows l.turn l.places inside l.invariant.1 (sym c.if-is-chosen.ensures) c.if-token-eq0.true
+    room a.processors picks a.event.length a.spare ts c.requires l.token-index l.rows l.turn l.places inside l.invariant.1 (sym c.if-is_chosen.ensures) c.if-token-eq0.true
 
-pub overflow-add-turn : goal.overflow-add-turn
-overflow-add-turn g c =
+pub overflow_add-turn : goal.overflow_add-turn
+overflow_add-turn g c =
     let a = c.args.choice.now in
     let picks : Token → Bool = picked (g.R.Rule.ranks c.args.rule.now) c.args.span a.last in
     let ts = c.args.rows.now in
     let l = c.loop-token in
     let inside : l.token-index < length ts = omega arith in
-    omega (arith, room a.processors picks a.event.length a.spare ts c.requires l.token-index l.rows l.turn l.places inside l.invariant.1 (sym c.if-is-chosen.ensures) c.if-token-eq0.true)
+    omega (arith, room a.processors picks a.event.length a.spare ts c.requires l.token-index l.rows l.turn l.places inside l.invariant.1 (sym c.if-is_chosen.ensures) c.if-token-eq0.true)
 
-pub overflow-sub-places : goal.overflow-sub-places
-overflow-sub-places g c =
+pub overflow_sub-places : goal.overflow_sub-places
+overflow_sub-places g c =
     let a = c.args.choice.now in
     let picks : Token → Bool = picked (g.R.Rule.ranks c.args.rule.now) c.args.span a.last in
     let ts = c.args.rows.now in
     let l = c.loop-token in
     let inside : l.token-index < length ts = omega arith in
     elim c.if-token-eq0.branch [
-      | then-token-eq0 v ↦ omega (arith, ap (λ (t : Token). t.processor) v.token-is, spare_number a.processors picks a.event.length a.spare ts c.requires l.token-index l.rows l.turn l.places inside l.invariant.1 (sym c.if-is-chosen.ensures) v.if-token-eq0.true)
+      | then-token-eq0 v ↦ omega (arith, ap (λ (t : Token). t.processor) v.token-is, spare_number a.processors picks a.event.length a.spare ts c.requires l.token-index l.rows l.turn l.places inside l.invariant.1 (sym c.if-is_chosen.ensures) v.if-token-eq0.true)
       | else-token-eq0 v ↦ omega (arith, ap (λ (t : Token). t.processor) v.token-is, v.if-token-eq0.false)
     ]
 
@@ -49,20 +49,20 @@ bounds-places-token g c =
     let l = c.loop-token in
     let inside : l.token-index < length ts = omega arith in
     elim c.if-token-eq0.branch [
-      | then-token-eq0 v ↦ omega (arith, ap (λ (t : Token). t.processor) v.token-is, spare_number a.processors picks a.event.length a.spare ts c.requires l.token-index l.rows l.turn l.places inside l.invariant.1 (sym c.if-is-chosen.ensures) v.if-token-eq0.true)
-      | else-token-eq0 v ↦ omega (arith, ap (λ (t : Token). t.processor) v.token-is, on_board a.processors picks a.event.length a.spare ts c.requires l.token-index l.rows l.turn l.places inside l.invariant.1 (sym c.if-is-chosen.ensures) v.if-token-eq0.false, v.if-token-eq0.false)
+      | then-token-eq0 v ↦ omega (arith, ap (λ (t : Token). t.processor) v.token-is, spare_number a.processors picks a.event.length a.spare ts c.requires l.token-index l.rows l.turn l.places inside l.invariant.1 (sym c.if-is_chosen.ensures) v.if-token-eq0.true)
+      | else-token-eq0 v ↦ omega (arith, ap (λ (t : Token). t.processor) v.token-is, on_board a.processors picks a.event.length a.spare ts c.requires l.token-index l.rows l.turn l.places inside l.invariant.1 (sym c.if-is_chosen.ensures) v.if-token-eq0.false, v.if-token-eq0.false)
     ]
 
-pub overflow-sub-token : goal.overflow-sub-token
-overflow-sub-token g c =
+pub overflow_sub-token : goal.overflow_sub-token
+overflow_sub-token g c =
     let a = c.args.choice.now in
     let picks : Token → Bool = picked (g.R.Rule.ranks c.args.rule.now) c.args.span a.last in
     let ts = c.args.rows.now in
     let l = c.loop-token in
     let inside : l.token-index < length ts = omega arith in
     elim c.if-token-eq0.branch [
-      | then-token-eq0 v ↦ omega (arith, ap (λ (t : Token). t.left) v.token-is, reaches a.processors picks a.event.length a.spare ts c.requires l.token-index l.rows l.turn l.places inside l.invariant.1 (sym c.if-is-chosen.ensures))
-      | else-token-eq0 v ↦ omega (arith, ap (λ (t : Token). t.left) v.token-is, reaches a.processors picks a.event.length a.spare ts c.requires l.token-index l.rows l.turn l.places inside l.invariant.1 (sym c.if-is-chosen.ensures))
+      | then-token-eq0 v ↦ omega (arith, ap (λ (t : Token). t.left) v.token-is, reaches a.processors picks a.event.length a.spare ts c.requires l.token-index l.rows l.turn l.places inside l.invariant.1 (sym c.if-is_chosen.ensures))
+      | else-token-eq0 v ↦ omega (arith, ap (λ (t : Token). t.left) v.token-is, reaches a.processors picks a.event.length a.spare ts c.requires l.token-index l.rows l.turn l.places inside l.invariant.1 (sym c.if-is_chosen.ensures))
     ]
 
 pub loop-token-preserved : goal.loop-token-preserved
@@ -73,26 +73,26 @@ loop-token-preserved g c =
     let l = c.loop-token in
     let i = l.token-index in
     let inside : i < length ts = omega arith in
-    elim c.if-is-chosen.branch [
-      | then-is-chosen w ↦ (
+    elim c.if-is_chosen.branch [
+      | then-is_chosen w ↦ (
         ap length w.places-is ∙ length-set l.places (w.if-token-eq0.token.processor - 1) w.if-token-eq0.token.tag ∙ l.invariant.0,
         elim w.if-token-eq0.branch [
           | then-token-eq0 v ↦ moving_is a.processors picks a.event.length ts
               (w.rows-is ∙ ap (λ (t : Token). set l.rows i (record { tag = t.tag; left = t.left - a.event.length; processor = t.processor })) v.token-is)
-              (w.turn-is ∙ v.turn_is)
+              (w.turn-is ∙ v.turn-is)
               (w.places-is ∙ ap (λ (t : Token). set l.places (t.processor - 1) t.tag) v.token-is)
-              (move_off a.processors picks a.event.length a.spare ts c.requires i l.rows l.turn l.places inside l.invariant.1 (sym w.if-is-chosen.ensures) v.if-token-eq0.true)
+              (move_off a.processors picks a.event.length a.spare ts c.requires i l.rows l.turn l.places inside l.invariant.1 (sym w.if-is_chosen.ensures) v.if-token-eq0.true)
           | else-token-eq0 v ↦ moving_is a.processors picks a.event.length ts
               (w.rows-is ∙ ap (λ (t : Token). set l.rows i (record { tag = t.tag; left = t.left - a.event.length; processor = t.processor })) v.token-is)
-              (w.turn-is ∙ v.turn_is)
+              (w.turn-is ∙ v.turn-is)
               (w.places-is ∙ ap (λ (t : Token). set l.places (t.processor - 1) t.tag) v.token-is)
-              (move_on a.processors picks a.event.length a.spare ts c.requires i l.rows l.turn l.places inside l.invariant.1 (sym w.if-is-chosen.ensures) v.if-token-eq0.false)
+              (move_on a.processors picks a.event.length a.spare ts c.requires i l.rows l.turn l.places inside l.invariant.1 (sym w.if-is_chosen.ensures) v.if-token-eq0.false)
         ],
       )
-      | else-is-chosen w ↦ (
+      | else-is_chosen w ↦ (
         ap length w.places-is ∙ l.invariant.0,
         moving_is a.processors picks a.event.length ts w.rows-is w.turn-is w.places-is
-            (move_not a.processors picks a.event.length a.spare ts c.requires i l.rows l.turn l.places inside l.invariant.1 (sym w.if-is-chosen.ensures)),
+            (move_not a.processors picks a.event.length a.spare ts c.requires i l.rows l.turn l.places inside l.invariant.1 (sym w.if-is_chosen.ensures)),
       )
     ]
 

@@ -31,7 +31,7 @@ unwrap-at-requires g c =
     let none = writes m key law (length ts) c.args.span ts c.args.plan.now l.left l.rows l.plan l.count l.at c.requires.room (omega arith) l.invariant in
     ap is_ok
     (appended m (step m key l.left l.rows).segment _ (length l.plan - l.at) (l.at + record_size m) _
-    (counted_kind c.advance-event.result c.advance-event.new.row.places c.number.result c.number.ensures ∙ c.advance-event.ensures.segment) none c.append-record.ensures.answer)
+    (counted_kind c.advance-event.result c.advance-event.new.row.places c.number.result c.number.ensures ∙ c.advance-event.ensures.segment) none c.append_record.ensures.answer)
 
 pub loop-left-preserved : goal.loop-left-preserved
 loop-left-preserved g c =
@@ -42,11 +42,11 @@ loop-left-preserved g c =
     let l = c.loop-left in
     let told = c.advance-event.ensures in
     let it = counted_kind c.advance-event.result c.advance-event.new.row.places c.number.result c.number.ensures ∙ told.segment in
-    let next : c.unwrap-at.result ≡ l.at + record_size m = answer_is _ _ _ (sym c.unwrap-at.ensures ∙ c.append-record.ensures.answer) in
-    let wrote = c.append-record.ensures.bytes
+    let next : c.unwrap-at.result ≡ l.at + record_size m = answer_is _ _ _ (sym c.unwrap-at.ensures ∙ c.append_record.ensures.answer) in
+    let wrote = c.append_record.ensures.bytes
     ∙ (λ j. cond (ap is_ok c.unwrap-at.ensures j) ((take l.at l.plan ++ record_bytes m (it j)) ++ drop (l.at + record_size m) l.plan) l.plan) in
     course_is m key law (length ts) c.args.span ts c.args.plan.now (ap (λ (x : Segment). l.left - x.units) told.segment) told.rows next
-    (more m key law (length ts) c.args.span ts c.args.plan.now l.left l.rows l.plan l.count l.at c.requires.room (omega arith) l.invariant c.append-record.new.plan wrote)
+    (more m key law (length ts) c.args.span ts c.args.plan.now l.left l.rows l.plan l.count l.at c.requires.room (omega arith) l.invariant c.append_record.new.plan wrote)
 
 pub returns : goal.returns
 returns g c =

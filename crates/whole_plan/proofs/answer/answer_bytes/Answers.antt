@@ -18,9 +18,9 @@ returns-in-Err c =
     let e = c.in-Err.ensures in
     let d = refused_is (whole_plan c.args.table.now (length out)) c.in-Err.refusal e.answer in
     let same : c.whole_plan.new.plan ≡ out = e.bytes ∙ ap (λ d. with_plan d out) d in
-    let answer = c.put-refusal.ensures.answer ∙ ap (λ x. length (fitted x (refused_line c.in-Err.refusal))) same in
+    let answer = c.put_refusal.ensures.answer ∙ ap (λ x. length (fitted x (refused_line c.in-Err.refusal))) same in
     record {
       answer = answer ∙ ap (λ d. length (fitted out (plan_or_line d))) (sym d);
-      bytes = c.put-refusal.ensures.bytes ∙ ap (λ x. in_front (fitted x (refused_line c.in-Err.refusal)) x) same ∙ ap (λ d. in_front (fitted out (plan_or_line d)) out) (sym d);
+      bytes = c.put_refusal.ensures.bytes ∙ ap (λ x. in_front (fitted x (refused_line c.in-Err.refusal)) x) same ∙ ap (λ d. in_front (fitted out (plan_or_line d)) out) (sym d);
       short = omega (arith, answer, length-take (length out) (refused_line c.in-Err.refusal));
     }

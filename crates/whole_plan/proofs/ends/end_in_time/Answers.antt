@@ -12,14 +12,14 @@ returns-then-planes-shortest c =
     let l = ends_within rows c.shortest.result c.shortest.ensures c.args.planes in
     sym (le-leb (tick_after c.args.planes rows) last_tick (omega arith))
 
-pub plane-end-end-requires : goal.plane-end-end-requires
-plane-end-end-requires c = record { some = c.requires.some; ready = ready_at c.args.rows.now c.requires.some c.requires.ready c.loop-plane.tick }
+pub plane_end-end-requires : goal.plane_end-end-requires
+plane_end-end-requires c = record { some = c.requires.some; ready = ready_at c.args.rows.now c.requires.some c.requires.ready c.loop-plane.tick }
 
 pub returns-then-end : goal.returns-then-end
 returns-then-end c =
     let rows = c.args.rows.now in
     let i = c.loop-plane.-plane in
-    let e : c.plane-end-end.result ≡ tick_after (suc i) rows = c.plane-end-end.ensures.value ∙ ap (λ t. earliest t rows) c.loop-plane.invariant.0 in
+    let e : c.plane_end-end.result ≡ tick_after (suc i) rows = c.plane_end-end.ensures.value ∙ ap (λ t. earliest t rows) c.loop-plane.invariant.0 in
     let l = ends_later rows c.requires.some c.requires.ready (suc i) c.args.planes (omega arith) in
     sym (lt-leb (tick_after c.args.planes rows) last_tick (omega arith))
 
@@ -27,5 +27,5 @@ pub loop-plane-preserved : goal.loop-plane-preserved
 loop-plane-preserved c =
     let rows = c.args.rows.now in
     let i = c.loop-plane.-plane in
-    let e : c.plane-end-end.result ≡ tick_after (suc i) rows = c.plane-end-end.ensures.value ∙ ap (λ t. earliest t rows) c.loop-plane.invariant.0 in
+    let e : c.plane_end-end.result ≡ tick_after (suc i) rows = c.plane_end-end.ensures.value ∙ ap (λ t. earliest t rows) c.loop-plane.invariant.0 in
     (e ∙ ap (λ n. tick_after n rows) (sym (add-one i)), omega arith)

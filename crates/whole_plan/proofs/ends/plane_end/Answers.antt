@@ -7,11 +7,11 @@ use Rattle.whole_plan.specs.Ends.{Released}
 use Rattle.whole_plan.proofs.Earliest.{earliest_bounds, least_earliest}
 use Rattle.whole_plan.proofs.ends.plane_end.Goals as goal
 
-pub overflow-sub-periods : goal.overflow-sub-periods
-overflow-sub-periods c = omega (arith, (All-get_or (Released c.args.tick) c.args.rows.now c.loop-task.task-index zeros (omega arith) c.requires.ready).past)
+pub overflow_sub-periods : goal.overflow_sub-periods
+overflow_sub-periods c = omega (arith, (All-get_or (Released c.args.tick) c.args.rows.now c.loop-task.task-index zeros (omega arith) c.requires.ready).past)
 
-pub nonzero-div-periods : goal.nonzero-div-periods
-nonzero-div-periods c = omega (arith, (All-get_or (Released c.args.tick) c.args.rows.now c.loop-task.task-index zeros (omega arith) c.requires.ready).some)
+pub nonzero_div-periods : goal.nonzero_div-periods
+nonzero_div-periods c = omega (arith, (All-get_or (Released c.args.tick) c.args.rows.now c.loop-task.task-index zeros (omega arith) c.requires.ready).some)
 
 pub loop-task-preserved : goal.loop-task-preserved
 loop-task-preserved c =

@@ -15,10 +15,10 @@ returns-in-Err c =
     let s = moves_over_err rest plane a.board a.tokens.now (started (rest a.board) a.tasks.now a.tokens.now) c.in-Err.back _ c.in-Err.ensures in
     then_err _ s
 
-pub returns-in-err-finished : goal.returns-in-err-finished
-returns-in-err-finished c =
+pub returns-in_err-finished : goal.returns-in_err-finished
+returns-in_err-finished c =
     let a = c.args in
     let s = moves_over_ok rest plane a.board a.tokens.now (started (rest a.board) a.tasks.now a.tokens.now) c.in-Ok.plane _ c.in-Ok.ensures in
-    let f = answering_err (λ f. (f.steps, f.bytes)) _ (finished (plane c.in-Ok.plane) c.start.new.tokens largest_first a.plan.now) c.in-err-finished.field-0.0 _ c.in-err-finished.ensures in
-    let p = err_from_is_err_and c.from-residual.result c.from-residual.ensures.1 in
+    let f = answering_err (λ f. (f.steps, f.bytes)) _ (finished (plane c.in-Ok.plane) c.start.new.tokens largest_first a.plan.now) c.in_err-finished.field-0.0 _ c.in_err-finished.ensures in
+    let p = err_from_is_err_and c.from_residual.result c.from_residual.ensures.1 in
     rw (p.1, p.2) (then_on _ s ∙ then_err _ f)

@@ -7,30 +7,30 @@ use Rattle.plan_file.specs.Records.{segment_at}
 use Rattle.plan_file.proofs.NextRecord.{none_left, fault_range, fault_short, fault_head, fault_tags, one_read, fill_refused, fill_done}
 use Rattle.plan_file.proofs.reader.PlanReader.next_record.Goals as goal
 
-pub returns-in-err-head : goal.returns-in-err-head
-returns-in-err-head c =
+pub returns-in_err-head : goal.returns-in_err-head
+returns-in_err-head c =
     let bs = drop c.args.self.now.place c.args.self.now.bytes.now in
     let t = take_rest c.args.self.now.bytes.now c.args.self.now.place in
     let g = simp t at c.if-rest-m.false in
-    let e = simp t at c.in-err-head.ensures in
-    let p = err_from_is_err_and c.from-residual.result c.from-residual.ensures.1 in
-    let k = fault_head c.args.self.now.processors bs (omega arith) (omega arith) c.in-err-head.field-0.0 (omega arith) e in
+    let e = simp t at c.in_err-head.ensures in
+    let p = err_from_is_err_and c.from_residual.result c.from_residual.ensures.1 in
+    let k = fault_head c.args.self.now.processors bs (omega arith) (omega arith) c.in_err-head.field-0.0 (omega arith) e in
     rw (p.1, p.2)
     record { answer = sym k.0; fills = simp k.1; moves = simp (k.1, add-zero); same = (refl, refl, refl) }
 
-pub returns-in-err-fill : goal.returns-in-err-fill
-returns-in-err-fill c =
+pub returns-in_err-fill : goal.returns-in_err-fill
+returns-in_err-fill c =
     let m = c.args.self.now.processors in
     let bs = drop c.args.self.now.place c.args.self.now.bytes.now in
     let t = take_rest c.args.self.now.bytes.now c.args.self.now.place in
     let g = simp t at c.if-rest-m.false in
-    let e = simp t at c.in-ok-head.ensures in
-    let r : c.read-tags.result ≡ (segment_at m bs).row = simp (t, take_rest bs 9, c.from-m.ensures) at c.read-tags.ensures in
-    let d = fill_refused (distinct (segment_at m bs).row) c.in-err-fill.field-0.0 (simp r at c.in-err-fill.ensures.answer) in
-    let p = err_from_is_err_and c.from-residual-in-err-fill.result c.from-residual-in-err-fill.ensures.1 in
-    let k = fault_tags m bs (omega arith) (omega arith) c.in-ok-head.head (omega arith) e d.0 in
+    let e = simp t at c.in_ok-head.ensures in
+    let r : c.read_tags.result ≡ (segment_at m bs).row = simp (t, take_rest bs 9, c.from-m.ensures) at c.read_tags.ensures in
+    let d = fill_refused (distinct (segment_at m bs).row) c.in_err-fill.field-0.0 (simp r at c.in_err-fill.ensures.answer) in
+    let p = err_from_is_err_and c.from_residual-in_err-fill.result c.from_residual-in_err-fill.ensures.1 in
+    let k = fault_tags m bs (omega arith) (omega arith) c.in_ok-head.head (omega arith) e d.0 in
     rw (p.1, p.2, d.1)
-    record { answer = sym k.0; fills = simp k.1 (simp (r, d.0) at c.in-err-fill.ensures.places); moves = simp (k.1, add-zero); same = (refl, refl, refl) }
+    record { answer = sym k.0; fills = simp k.1 (simp (r, d.0) at c.in_err-fill.ensures.places); moves = simp (k.1, add-zero); same = (refl, refl, refl) }
 
 pub returns : goal.returns
 returns c =
@@ -38,11 +38,11 @@ returns c =
     let bs = drop c.args.self.now.place c.args.self.now.bytes.now in
     let t = take_rest c.args.self.now.bytes.now c.args.self.now.place in
     let g = simp t at c.if-rest-m.false in
-    let e = simp t at c.in-ok-head.ensures in
-    let r : c.read-tags.result ≡ (segment_at m bs).row = simp (t, take_rest bs 9, c.from-m.ensures) at c.read-tags.ensures in
-    let d = fill_done (distinct (segment_at m bs).row) (simp r at c.in-ok-fill.ensures.answer) in
-    let k = one_read m bs (omega arith) (omega arith) c.in-ok-head.head (omega arith) e d in
-    record { answer = sym k.0; fills = simp k.1 (simp (r, d) at c.in-ok-fill.ensures.places); moves = simp k.1 (omega arith); same = (refl, refl, refl) }
+    let e = simp t at c.in_ok-head.ensures in
+    let r : c.read_tags.result ≡ (segment_at m bs).row = simp (t, take_rest bs 9, c.from-m.ensures) at c.read_tags.ensures in
+    let d = fill_done (distinct (segment_at m bs).row) (simp r at c.in_ok-fill.ensures.answer) in
+    let k = one_read m bs (omega arith) (omega arith) c.in_ok-head.head (omega arith) e d in
+    record { answer = sym k.0; fills = simp k.1 (simp (r, d) at c.in_ok-fill.ensures.places); moves = simp k.1 (omega arith); same = (refl, refl, refl) }
 
 pub returns-then-self : goal.returns-then-self
 returns-then-self c =

@@ -6,8 +6,8 @@ use Rattle.planner.proofs.Releases.{least, earliest_bounds, least_earliest}
 use Rattle.planner.proofs.Withdrawals.{all_at}
 use Rattle.planner.proofs.board.Board.earliest_release.Goals as goal
 
-pub next-release-requires : goal.next-release-requires
-next-release-requires c = all_at (sound_task (rest c.args.self.now)) c.args.rows.now c.loop-task.task-index zeros c.requires.0 (omega arith)
+pub next_release-requires : goal.next_release-requires
+next_release-requires c = all_at (sound_task (rest c.args.self.now)) c.args.rows.now c.loop-task.task-index zeros c.requires.0 (omega arith)
 
 pub loop-task-preserved : goal.loop-task-preserved
 loop-task-preserved c =

@@ -12,15 +12,15 @@ use Rattle.planner.proofs.board.Board.weigh.Goals as goal
 abbrev blank : Task
 blank = record { tag = 0; execution = 0; period = 0; release = 0 }
 
-pub returns-then-not-is-sound : goal.returns-then-not-is-sound
-returns-then-not-is-sound c =
+pub returns-then-not-is_sound : goal.returns-then-not-is_sound
+returns-then-not-is_sound c =
     let e = at_drop_more (all (sound_task (rest c.args.self.now))) c.args.rows.now c.loop-task.task-index blank (omega arith) in
     grind (arith, nat_tests)
 
-pub overflow-add-sum : goal.overflow-add-sum
-overflow-add-sum c =
+pub overflow_add-sum : goal.overflow_add-sum
+overflow_add-sum c =
     let t = get_or c.args.rows.now c.loop-task.task-index blank in
-    omega (arith, sound_weight (rest c.args.self.now) t (sym c.if-not-is-sound.ensures), c.loop-task.invariant.2)
+    omega (arith, sound_weight (rest c.args.self.now) t (sym c.if-not-is_sound.ensures), c.loop-task.invariant.2)
 
 pub loop-task-preserved : goal.loop-task-preserved
 loop-task-preserved c =
@@ -28,7 +28,7 @@ loop-task-preserved c =
     let rows = c.args.rows.now in
     let t = get_or rows i blank in
     let b = rest c.args.self.now in
-    let ok : sound_task b t ≡ true = sym c.if-not-is-sound.ensures in
+    let ok : sound_task b t ≡ true = sym c.if-not-is_sound.ensures in
     let e = at_drop_more (all (sound_task b)) rows i blank (omega arith) in
     let f = sum_by-drop_more (weight c.args.self.now.scale) rows i blank (omega arith) in
     let w : weight c.args.self.now.scale t ≤ c.args.self.now.scale = sound_weight b t ok in

@@ -13,15 +13,15 @@ use Rattle.planner.proofs.board.Plane.add_up.Goals as goal
 abbrev blank : Token
 blank = record { tag = 0; left = 0; processor = 0 }
 
-pub returns-then-not-is-sound : goal.returns-then-not-is-sound
-returns-then-not-is-sound c =
+pub returns-then-not-is_sound : goal.returns-then-not-is_sound
+returns-then-not-is_sound c =
     let e = at_drop_more (all (sound_token (plane c.args.self.now))) c.args.rows.now c.loop-token.token-index blank (omega arith) in
     record { sum = grind (arith, nat_tests); tags = λ some. absurd (true≢false (sym some)) }
 
-pub overflow-add-sum : goal.overflow-add-sum
-overflow-add-sum c =
+pub overflow_add-sum : goal.overflow_add-sum
+overflow_add-sum c =
     let t = get_or c.args.rows.now c.loop-token.token-index blank in
-    let ok : sound_token (plane c.args.self.now) t ≡ true = sym c.if-not-is-sound.ensures.sound in
+    let ok : sound_token (plane c.args.self.now) t ≡ true = sym c.if-not-is_sound.ensures.sound in
     let low : t.left ≤ c.args.self.now.span = grind (arith, nat_tests) in
     omega (arith, c.loop-token.invariant.2)
 
@@ -31,11 +31,11 @@ loop-token-preserved c =
     let rows = c.args.rows.now in
     let t = get_or rows i blank in
     let p = plane c.args.self.now in
-    let ok : sound_token p t ≡ true = sym c.if-not-is-sound.ensures.sound in
+    let ok : sound_token p t ≡ true = sym c.if-not-is_sound.ensures.sound in
     let e = at_drop_more (all (sound_token p)) rows i blank (omega arith) in
     let f = sum_by-drop_more (λ (x : Token). x.left) rows i blank (omega arith) in
     let low : t.left ≤ c.args.self.now.span = grind (arith, nat_tests) in
-    let short : (get_or rows i blank).tag < 2 ^ 16 = c.is-sound.ensures.tag in (
+    let short : (get_or rows i blank).tag < 2 ^ 16 = c.is_sound.ensures.tag in (
       grind (arith, nat_tests),
       omega (arith, f, c.loop-token.invariant.1),
       omega (arith, c.loop-token.invariant.2),

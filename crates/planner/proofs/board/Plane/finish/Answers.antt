@@ -8,10 +8,10 @@ use Rattle.planner.specs.Views.{plane}
 use Rattle.planner.proofs.Fitting.{sound_rows, rows_there, answered_as, finish_accepted}
 use Rattle.planner.proofs.board.Plane.finish.Goals as goal
 
-pub run-out-finished-requires : goal.run-out-finished-requires
-run-out-finished-requires g c =
+pub run_out-finished-requires : goal.run_out-finished-requires
+run_out-finished-requires g c =
     let p = c.args.self.now in
-    let told = c.if-not-tokens-fit.ensures in
+    let told = c.if-not-tokens_fit.ensures in
     let there = rows_there (plane p) c.args.tokens.now (p.board.count - 0) (omega arith) (sym told.fits) in
     record {
       few = omega (arith, there, p.board.counted);
@@ -30,16 +30,16 @@ returns g c =
     let key = g.R.Rule.ranks c.args.rule.now in
     let law = g.met.R.Rule.lawful c.args.rule.now in
     let k-is : n - 0 ≡ n = omega arith in
-    let fit = c.if-not-tokens-fit.ensures in
+    let fit = c.if-not-tokens_fit.ensures in
     let there = rows_there p ks (n - 0) k-is (sym fit.fits) in
     let there' = rows_there p ks n refl (sym fit.fits) in
     let sound = sound_rows p ks n refl c.args.self.now.board.some c.args.self.now.board.few (fit.tags refl) (sym fit.fits) in
     let over = span_out m n p.span (take n ks) there' sound c.args.self.now.short key law in
-    let told = c.run-out-finished.ensures in
+    let told = c.run_out-finished.ensures in
     let done : List Segment × ℕ × List Token = steps (n + 1) m key p.span (take n ks) in
     let same : steps (length (take (n - 0) ks) + 1) m key p.span (take (n - 0) ks) ≡ done =
     λ j. steps (there j + 1) m key p.span (take (k-is j) ks) in
-    answered_as (λ f. (f.steps, f.bytes)) _ _ (finished p ks key buffer) _ _ c.run-out-finished.result
+    answered_as (λ f. (f.steps, f.bytes)) _ _ (finished p ks key buffer) _ _ c.run_out-finished.result
     (finish_accepted p ks key buffer (omega arith) (sym fit.fits) (omega arith))
     (λ j. (with_span p (sym over j), (told.rows ∙ ap (λ (d : List Segment × ℕ × List Token). d.2) same) j ++ drop (k-is j) ks, (told.plan ∙ ap (λ (d : List Segment × ℕ × List Token). written m d.0 buffer) same) j))
     (λ j. ((told.steps ∙ ap (λ (d : List Segment × ℕ × List Token). length d.0) same) j, (told.bytes ∙ ap (λ (d : List Segment × ℕ × List Token). length (records_bytes m d.0)) same) j))

@@ -8,7 +8,7 @@ use Rattle.planner.proofs.board.Plane.step.Goals as goal
 pub advance-event-requires : goal.advance-event-requires
 advance-event-requires g c =
     let p = c.args.self.now in
-    let told = c.if-not-tokens-fit.ensures in
+    let told = c.if-not-tokens_fit.ensures in
     record {
       sound = sound_rows (plane p) c.args.tokens.now (p.board.count - 0) (omega arith) p.board.some p.board.few (told.tags refl) (sym told.fits);
       some = omega arith;
@@ -28,6 +28,6 @@ returns g c =
     let rows = told.rows ∙ ap (λ k. (step m key p.span (take k ks)).tokens) k-is in
     let segment = told.segment ∙ ap (λ k. (step m key p.span (take k ks)).segment) k-is in
     answered_as (λ e. (e.length, _)) _ _ (stepped p ks key) _ _ c.advance-event.result
-    (step_accepted p ks key (omega arith) (sym c.if-not-tokens-fit.ensures.fits))
+    (step_accepted p ks key (omega arith) (sym c.if-not-tokens_fit.ensures.fits))
     (λ j. (with_span p (p.span - (segment j).units), rows j ++ drop (k-is j) ks, (segment j).row))
     (λ j. ((segment j).units, (segment j).kind))

@@ -21,8 +21,8 @@ summed : (b : Bool) (x y : ℕ) → Some x ≡ cond b (Some y) None → b ≡ tr
 summed true x y e = refl
 summed false x y e = cc
 
-pub processors-differ-requires : goal.processors-differ-requires
-processors-differ-requires c =
+pub processors_differ-requires : goal.processors_differ-requires
+processors_differ-requires c =
     let p = plane c.args.self.now in
     let rows = take (c.args.self.now.board.count - 0) c.args.tokens.now in
     few_processors p rows (omega arith) (summed (all (sound_token p) rows) c.in-Some.left (sum_by (λ x. x.left) rows) c.in-Some.ensures.sum)
