@@ -15,7 +15,7 @@ use Rattle.queue.specs.Order.{Heaped}
 use Rattle.queue.proofs.Heap.{heap_none}
 use Rattle.model.specs.State.{unless}
 use Rattle.ahead.specs.declared.release.Due.{Due}
-use Rattle.ahead.specs.Waiting.{Compared, by_tick}
+use Rattle.ahead.specs.Waiting.{compared, by_tick}
 
 pub none_held : (hs : List Due) → length hs ≡ 0 → IsPermutation [] hs × Heaped by_tick hs × All (λ d. d.tick ≤ 2 ^ 33) hs
 none_held [] e = (IsPermutation-refl [], heap_none by_tick [] refl, tt)
@@ -36,7 +36,7 @@ module _ {X : Type 0} (f : X → Due) (xs : List X) (i : ℕ) (d : X) (in' : i <
   pub held_long : length (held q) ≡ i
   held_long = length_permutation _ (held q) was ∙ length-map (take i xs) f ∙ length-take-le i xs (omega arith)
 
-  pub gathered : Inserted Compared q (f (get_or xs i d)) q' → IsPermutation (map f (take (i + 1) xs)) (held q')
+  pub gathered : Inserted compared q (f (get_or xs i d)) q' → IsPermutation (map f (take (i + 1) xs)) (held q')
   gathered put =
       let y = f (get_or xs i d) in
       let one_more : map f (take (i + 1) xs) ≡ map f (take i xs) ++ y ∷ [] = ap (map f) (take_more xs i d in') ∙ map-append f (take i xs) (get_or xs i d ∷ []) in

@@ -1,9 +1,8 @@
 -- The releases that wait in the queue: for each task the first one past what is listed.
 use Rattle.std.specs.Prelude.{◌≡◌, ℕ, ◌+◌, ◌*◌, ◌<◌, ◌≤◌, Bool, true, List, count_by, Option, nat_eq}
 use Rattle.std.specs.declared.cmp.Ordering.{Ordering}
-use Rattle.std.specs.Cmp.Derive.{on, fields, Lex}
-use Rattle.std.specs.Cmp.{IsTotalOrder, nat_cmp_total}
-use Rattle.std.specs.Ordering.{MatchOrdering}
+use Rattle.std.specs.Cmp.{IsTotalOrder, nat_cmp_total, on_total, then_total}
+use Rattle.std.specs.Ordering.{nat_cmp, ordering_then}
 use Rattle.std.specs.List.{AllByRecursion as All}
 use Rattle.rows.specs.declared.memory.Task.{Task}
 use Rattle.rows.specs.Tests.{rising}
@@ -13,15 +12,15 @@ use Rattle.ahead.specs.declared.release.Release.{Release}
 use Rattle.ahead.specs.declared.release.Due.{Due}
 use Rattle.ahead.specs.Ahead.{release_of, past}
 
--- the answers that `cmp` may give for two of them
-abbrev pub Compared : Due → Due → Ordering → Type 0
-Compared x y =
-    Lex (λ r. MatchOrdering r (x.tick < y.tick) (x.tick ≡ y.tick) (y.tick < x.tick))
-    (Lex (λ r. MatchOrdering r (x.tag < y.tag) (x.tag ≡ y.tag) (y.tag < x.tag)) (λ r. MatchOrdering r (x.period < y.period) (x.period ≡ y.period) (y.period < x.period)))
+-- what `cmp` answers for two of them: by tick, then by tag, and then by period
+abbrev pub compared : Due → Due → Ordering
+compared x y = ordering_then (nat_cmp x.tick y.tick) (ordering_then (nat_cmp x.tag y.tag) (nat_cmp x.period y.period))
 
--- the order that it obeys
-abbrev pub by_tick : IsTotalOrder Compared
-by_tick = on (λ (e : Due). (e.tick, (e.tag, e.period))) (fields nat_cmp_total (fields nat_cmp_total nat_cmp_total))
+-- it is an order
+abbrev pub by_tick : IsTotalOrder compared
+by_tick =
+    then_total (on_total (λ (d : Due). d.tick) nat_cmp_total)
+    (then_total (on_total (λ (d : Due). d.tag) nat_cmp_total) (on_total (λ (d : Due). d.period) nat_cmp_total))
 
 -- a task's first release after a tick
 abbrev pub first_due : ℕ → Task → Due

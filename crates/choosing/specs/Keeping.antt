@@ -2,9 +2,8 @@
 use Rattle.std.specs.Prelude.{◌≡◌, ℕ, ◌<◌, min, Bool, cond, ◌&&◌, List, length, Some, None, count_by, Option, ◌==◌}
 use Rattle.std.specs.declared.cmp.Ordering.{Ordering}
 use Rattle.std.specs.declared.cmp.Reverse.{Reverse}
-use Rattle.std.specs.Cmp.Derive.{on, fields, Lex}
-use Rattle.std.specs.Cmp.{IsTotalOrder, nat_cmp_total, opposite}
-use Rattle.std.specs.Ordering.{MatchOrdering}
+use Rattle.std.specs.Cmp.{IsTotalOrder, nat_cmp_total, on_total, back_total, then_total}
+use Rattle.std.specs.Ordering.{nat_cmp, ordering_then}
 use Rattle.rows.specs.declared.memory.Token.{Token}
 use Rattle.queue.specs.Held.{first_of}
 use Rattle.rules.specs.Keys.{Key}
@@ -12,20 +11,20 @@ use Rattle.model.specs.Steps.{active, chosen}
 use Rattle.choosing.specs.declared.entry.Entry.{Entry}
 use Rattle.choosing.specs.Entries.{entry_of, earlier, up_to}
 
--- the answers that `cmp` may give for two entries
-abbrev pub Compared : Entry → Entry → Ordering → Type 0
-Compared x y = Lex (λ r. MatchOrdering r (x.key < y.key) (x.key ≡ y.key) (y.key < x.key)) (λ r. MatchOrdering r (x.tag < y.tag) (x.tag ≡ y.tag) (y.tag < x.tag))
+-- what `cmp` answers for two entries: by key, and then by tag
+abbrev pub compared : Entry → Entry → Ordering
+compared x y = ordering_then (nat_cmp x.key y.key) (nat_cmp x.tag y.tag)
 
--- the order that it obeys
-abbrev pub first_first : IsTotalOrder Compared
-first_first = on (λ (e : Entry). (e.key, e.tag)) (fields nat_cmp_total nat_cmp_total)
+-- it is an order
+abbrev pub first_first : IsTotalOrder compared
+first_first = then_total (on_total (λ (e : Entry). e.key) nat_cmp_total) (on_total (λ (e : Entry). e.tag) nat_cmp_total)
 
 -- both turned: the last of the kept entries is on top of the queue
-abbrev pub Turned : Reverse Entry → Reverse Entry → Ordering → Type 0
-Turned x y = Compared y.0 x.0
+abbrev pub turned : Reverse Entry → Reverse Entry → Ordering
+turned x y = compared y.0 x.0
 
-abbrev pub last_first : IsTotalOrder Turned
-last_first = opposite first_first
+abbrev pub last_first : IsTotalOrder turned
+last_first = on_total (λ (r : Reverse Entry). r.0) (back_total first_first)
 
 -- the entry on top
 abbrev pub top : Option (Reverse Entry) → Option Entry

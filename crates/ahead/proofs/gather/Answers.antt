@@ -5,7 +5,7 @@ use Rattle.std.proofs.ByRecursion.{all_shuffled}
 use Rattle.rows.specs.declared.memory.Task.{Task}
 use Rattle.queue.specs.Held.{held, Inserted}
 use Rattle.ahead.specs.Ahead.{timely}
-use Rattle.ahead.specs.Waiting.{Compared, by_tick, first_due}
+use Rattle.ahead.specs.Waiting.{compared, by_tick, first_due}
 use Rattle.ahead.proofs.Gathering.{none_held, all_at, put_in, held_long, gathered}
 use Rattle.ahead.proofs.gather.Goals as goal
 
@@ -28,7 +28,7 @@ loop-task-preserved c =
     let rows = c.args.rows.now in
     let long = held_long f rows i none (omega arith) q q' l.invariant.1 in
     let put = put_in _ _ _ _ (ne_eqb (length (held q)) (length q.memory.now) (omega (arith, long, l.invariant.0, c.requires.room))) c.insert.ensures.answer c.insert.ensures.after in
-    let put' = subst (λ d. Inserted Compared q d q') c.due.ensures.value put in (
+    let put' = subst (λ d. Inserted compared q d q') c.due.ensures.value put in (
       put.size ∙ l.invariant.0,
       gathered f rows i none (omega arith) q q' l.invariant.1 put',
       put.order by_tick l.invariant.2,
