@@ -7,4 +7,4 @@ invariant_of-result c =
     let fine = b.fine in
     let told = c.earliest_release-end.ensures in
     let few : c.earliest_release-end.result - b.tick ≤ 134217728 = omega (arith, told.near) in
-    (omega arith, (omega arith, (omega (arith, mul-le-mul few fine), tt)))
+    record { tasked = omega arith; ends = omega arith; short = omega (arith, mul-le-mul few fine) }
