@@ -18,7 +18,7 @@ plane_end-end-requires c = record { some = c.requires.some; ready = ready_at c.a
 pub returns-then-end : goal.returns-then-end
 returns-then-end c =
     let rows = c.args.rows.now in
-    let i = c.loop-plane.-plane in
+    let i = c.loop-plane._plane in
     let e : c.plane_end-end.result ≡ tick_after (suc i) rows = c.plane_end-end.ensures.value ∙ ap (λ t. earliest t rows) c.loop-plane.invariant.0 in
     let l = ends_later rows c.requires.some c.requires.ready (suc i) c.args.planes (omega arith) in
     sym (lt-leb (tick_after c.args.planes rows) last_tick (omega arith))
@@ -26,6 +26,6 @@ returns-then-end c =
 pub loop-plane-preserved : goal.loop-plane-preserved
 loop-plane-preserved c =
     let rows = c.args.rows.now in
-    let i = c.loop-plane.-plane in
+    let i = c.loop-plane._plane in
     let e : c.plane_end-end.result ≡ tick_after (suc i) rows = c.plane_end-end.ensures.value ∙ ap (λ t. earliest t rows) c.loop-plane.invariant.0 in
     (e ∙ ap (λ n. tick_after n rows) (sym (add-one i)), omega arith)
