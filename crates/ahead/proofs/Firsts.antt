@@ -1,6 +1,6 @@
 -- A task's first release past a point, and its next one.
-use Rattle.std.proofs.Common.{◌≡◌, ℕ, ◌+◌, ◌-◌, ◌*◌, ◌/◌, ◌%◌, ◌<◌, ◌≤◌, Bool, true, false, eqb, ltb, leb, ◌⊎◌, List, [], ◌∷◌, map, Some, None, count_by, Option, sym, refl, ap, ◌∙◌, subst, inl, inr, ⊎_elim, mul-le-mul_right, mod-lt, add-mul, one-mul, div-add-mod', arith, ltb-false, ltb-true, lt-ltb, eqb-true, leb-true}
-use Rattle.std.proofs.lemmas.Bool.{and_parts, or_left, or_from}
+use Rattle.std.proofs.Common.{◌≡◌, ℕ, ◌+◌, ◌-◌, ◌*◌, ◌/◌, ◌<◌, ◌≤◌, Bool, true, false, eqb, ltb, leb, ◌⊎◌, List, [], ◌∷◌, Some, None, count_by, Option, sym, refl, ap, ◌∙◌, inl, inr, ⊎_elim, mul-le-mul_right, mod-lt, add-mul, one-mul, div-add-mod', arith, ltb-false, ltb-true, lt-ltb, eqb-true, leb-true}
+use Rattle.std.proofs.lemmas.Bool.{and_parts, or_left}
 use Rattle.std.proofs.lemmas.Bool.Decides.{nat_tests}
 use Rattle.rows.specs.declared.memory.Task.{Task}
 use Rattle.rows.specs.Tests.{rising}

@@ -1,5 +1,5 @@
 -- One release more is listed, and its task's next one waits.
-use Rattle.std.proofs.Common.{◌≡◌, ℕ, ◌+◌, ◌*◌, ◌<◌, ◌≤◌, Bool, true, false, not, ◌&&◌, ◌||◌, eqb, ltb, ◌⊎◌, List, [], ◌∷◌, map, length, Some, None, count_by, Option, sym, refl, ap, ◌∙◌, subst, inl, inr, ⊎_elim, true≢false, arith, ltb-true, eq-eqb, ne_eqb, eqb-true}
+use Rattle.std.proofs.Common.{◌≡◌, ℕ, ◌+◌, ◌<◌, ◌≤◌, Bool, true, false, not, ◌&&◌, ◌||◌, eqb, ◌⊎◌, List, [], ◌∷◌, map, Some, None, count_by, Option, sym, refl, ap, ◌∙◌, subst, inl, inr, ⊎_elim, true≢false, arith, ltb-true, eq-eqb, eqb-true}
 use borrow.Author.Tests.{eqb-false}
 use Rattle.std.specs.List.Sorted.{IsPermutation}
 use Rattle.std.specs.List.{AllByRecursion as All}
@@ -14,7 +14,7 @@ use Rattle.model.specs.Tables.{tags}
 use Rattle.model.proofs.Counts.{bit, count_cons, count_le, all_in, in_all}
 use Rattle.ahead.specs.declared.release.Release.{Release}
 use Rattle.ahead.specs.declared.release.Due.{Due}
-use Rattle.ahead.specs.Ahead.{timely, release_of, Released, sooner, past, Next}
+use Rattle.ahead.specs.Ahead.{timely, release_of, sooner, past, Next}
 use Rattle.ahead.specs.Waiting.{by_tick, first_due, release, FirstDue, Table, Waiting}
 use Rattle.ahead.proofs.Sooner.{not_sooner, not_sooner_later}
 use Rattle.ahead.proofs.Firsts.{same_task, tag_once, first_after, same_tick, later, first_later, first_other}

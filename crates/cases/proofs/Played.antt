@@ -1,5 +1,5 @@
 -- The calls of a script, one after the other, are a run.
-use Rattle.std.proofs.Common.{◌≡◌, ℕ, true, List, [], ◌∷◌, replicate, Ok, Err, Result, sym, refl, subst, true≢false, arith, ltb-true}
+use Rattle.std.proofs.Common.{◌≡◌, true, List, [], ◌∷◌, replicate, Ok, Err, Result, sym, refl, subst, true≢false, arith, ltb-true}
 use Rattle.std.proofs.lemmas.Bool.{and_parts}
 use Rattle.std.proofs.lemmas.Bool.Decides.{nat_tests}
 use Rattle.rows.specs.declared.refusal.Refusal.{Refusal}

@@ -1,10 +1,10 @@
 -- The releases ahead of two tasks: each is the first after the one before it.
-use Rattle.std.proofs.Common.{◌≡◌, ℕ, zero, suc, ◌<◌, true, false, List, [], ◌∷◌, Some, None, Option, sym, refl, ap, ◌∙◌, subst, arith}
+use Rattle.std.proofs.Common.{◌≡◌, ℕ, zero, suc, true, false, List, [], ◌∷◌, Some, None, Option, sym, refl, subst, arith}
 use Rattle.std.proofs.lemmas.Bool.Decides.{nat_tests}
 use Rattle.rows.specs.declared.memory.Task.{Task}
-use Rattle.model.specs.Members.{In, here, there}
+use Rattle.model.specs.Members.{here, there}
 use Rattle.ahead.specs.declared.release.Release.{Release}
-use Rattle.ahead.specs.Ahead.{Released, release_of, sooner, past, Next}
+use Rattle.ahead.specs.Ahead.{Released, release_of, sooner, past}
 use Rattle.cases.specs.Worked.{task, release, WorkedReleasesAreAhead}
 
 abbrev two : List Task

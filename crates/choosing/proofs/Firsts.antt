@@ -1,5 +1,5 @@
 -- One token more, and the first m of the active ones are kept again.
-use Rattle.std.proofs.Common.{◌≡◌, ℕ, ◌+◌, ◌<◌, ◌≤◌, min, Bool, true, false, cond, not, ◌&&◌, eqb, ltb, List, [], ◌∷◌, ◌++◌, length, Some, None, count_by, Option, sym, refl, ap, ◌∙◌, subst, true≢false, arith, le-ltb, lt-ltb, eq-eqb, eqb-true, MatchOption}
+use Rattle.std.proofs.Common.{◌≡◌, ℕ, ◌+◌, ◌<◌, ◌≤◌, min, Bool, true, false, cond, not, ◌&&◌, eqb, ltb, List, [], ◌∷◌, ◌++◌, length, Some, None, count_by, Option, sym, refl, ap, ◌∙◌, true≢false, arith, le-ltb, lt-ltb, eq-eqb, eqb-true, MatchOption}
 use borrow.Author.Tests.{eqb-false}
 use Rattle.std.specs.declared.cmp.Reverse.{Reverse}
 use Rattle.std.specs.List.Sorted.{IsPermutation}
@@ -9,7 +9,7 @@ use Rattle.rows.specs.declared.memory.Token.{Token}
 use Rattle.queue.specs.Held.{first_of}
 use Rattle.queue.specs.Order.{Heaped}
 use Rattle.rules.specs.Keys.{Key}
-use Rattle.model.specs.Steps.{active, chosen}
+use Rattle.model.specs.Steps.{active}
 use Rattle.model.proofs.Counts.{bit, count_cons, count_le}
 use Rattle.choosing.specs.declared.entry.Entry.{Entry}
 use Rattle.choosing.specs.Entries.{entry_of, earlier, up_to}

@@ -1,5 +1,5 @@
 -- Keeping the first few of a list of tokens.
-use Rattle.std.specs.Prelude.{◌≡◌, ℕ, ◌<◌, min, Bool, cond, ◌&&◌, List, length, Some, None, count_by, Option, ◌==◌}
+use Rattle.std.specs.Prelude.{◌≡◌, ℕ, min, cond, ◌&&◌, List, length, Some, None, count_by, Option, ◌==◌}
 use Rattle.std.specs.declared.cmp.Ordering.{Ordering}
 use Rattle.std.specs.declared.cmp.Reverse.{Reverse}
 use Rattle.std.specs.Cmp.{IsTotalOrder, nat_cmp_total, on_total, back_total, then_total}

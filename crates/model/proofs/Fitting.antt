@@ -1,5 +1,5 @@
 -- A step over any memory that fits its plane leaves memory that fits, and a segment that a plan file can hold.
-use Rattle.std.proofs.Common.{◌≡◌, ℕ, ◌^◌, ◌<◌, true, List, ◌++◌, length, take, drop, sym, ◌∙◌, subst, arith, take_at}
+use Rattle.std.proofs.Common.{◌≡◌, ◌^◌, ◌<◌, true, List, ◌++◌, length, take, drop, sym, ◌∙◌, subst, arith, take_at}
 use Rattle.std.specs.List.{AllByRecursion as All}
 use Rattle.std.proofs.lemmas.List.{length-map}
 use Rattle.rows.specs.declared.memory.Token.{Token}

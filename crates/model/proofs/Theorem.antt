@@ -7,13 +7,12 @@ use Rattle.std.proofs.lemmas.Bool.{cases_lt}
 use Rattle.rows.specs.declared.memory.Task.{Task}
 use Rattle.rows.specs.declared.memory.Token.{Token}
 use Rattle.model.specs.State.{Rest, Open, opened}
-use Rattle.model.specs.Tables.{weight, tasks_fit}
+use Rattle.model.specs.Tables.{weight}
 use Rattle.plan_file.specs.Records.{Segment}
 use Rattle.model.specs.Histories.{Event, ran_in}
 use Rattle.model.specs.Runs.{World, resting, running, Memory}
 use Rattle.model.specs.Fitting.{Widths}
 use Rattle.model.specs.Claims.{WithinSpan, OverInTime, ServedAtRelease, StartsLater, SegmentsHold, Holds, RunsSound}
-use Rattle.model.specs.Members.{there}
 use Rattle.model.proofs.Counts.{all_in}
 use Rattle.model.proofs.Segments.{Good}
 use Rattle.model.proofs.Course.{total_cons}

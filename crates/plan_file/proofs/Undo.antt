@@ -1,17 +1,14 @@
 -- Writing and reading a record undo each other.
-use Rattle.std.proofs.Common.{◌≡◌, ℕ, zero, suc, ◌+◌, ◌-◌, ◌*◌, ◌/◌, ◌%◌, ◌<◌, ◌≤◌, true, false, eqb, List, [], ◌∷◌, ◌++◌, length, get_or, take, drop, replicate, Some, None, Ok, Err, sym, refl, ap, ◌∙◌, arith, take-add}
-use Rattle.std.proofs.lemmas.List.{append_assoc, take-append-drop, length-append, length-replicate, length-take-le, length-drop, get_or-drop, drop_more, take_at, drop_at, take_more}
+use Rattle.std.proofs.Common.{◌≡◌, ℕ, zero, suc, ◌+◌, ◌-◌, ◌*◌, ◌/◌, ◌%◌, ◌<◌, ◌≤◌, true, eqb, List, [], ◌∷◌, ◌++◌, length, get_or, take, drop, replicate, None, Ok, sym, refl, ap, ◌∙◌, arith, take-add}
+use Rattle.std.proofs.lemmas.List.{take-append-drop, length-append, length-replicate, length-take-le, length-drop, get_or-drop, take_at, drop_at, take_more}
 use Rattle.std.proofs.lemmas.Bool.Decides.{nat_tests}
-use Rattle.rows.specs.Limits.{longest_span}
-use Rattle.rows.specs.Tests.{within, distinct, all}
+use Rattle.rows.specs.Tests.{distinct, all}
 use Rattle.plan_file.specs.declared.record.RecordHead.{RecordHead}
 use Rattle.plan_file.specs.Bytes.{be64, first64}
-use Rattle.plan_file.specs.Records.{Segment, record_size, record_bytes, tag_bytes, tags_at, segment_at}
+use Rattle.plan_file.specs.Records.{record_size, record_bytes, tag_bytes, tags_at, segment_at}
 use Rattle.plan_file.specs.Faults.{answered}
 use Rattle.plan_file.specs.Heads.{head_of, head_at, head_fault}
-use Rattle.plan_file.specs.Writing.{write_fault}
-use Rattle.plan_file.specs.Reading.{next_answer, takes}
-use Rattle.plan_file.specs.RoundTrip.{Below, Writable, WrittenReads, ReadWrites}
+use Rattle.plan_file.specs.RoundTrip.{Below, WrittenReads, ReadWrites}
 use Rattle.plan_file.proofs.Tags.{length_tag_bytes, length_tags_at}
 use Rattle.plan_file.proofs.NextRecord.{one_read}
 

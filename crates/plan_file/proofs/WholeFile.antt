@@ -1,16 +1,15 @@
 -- Writing and reading a whole file undo each other.
-use Rattle.std.proofs.Common.{◌≡◌, ℕ, zero, suc, ◌+◌, ◌*◌, ◌/◌, ◌%◌, ◌<◌, ◌≤◌, true, false, List, [], ◌∷◌, ◌++◌, length, get_or, take, drop, Some, None, Option, sym, refl, ap, ◌∙◌, arith}
+use Rattle.std.proofs.Common.{◌≡◌, ℕ, zero, suc, ◌+◌, ◌*◌, ◌/◌, ◌%◌, ◌<◌, ◌≤◌, List, [], ◌∷◌, ◌++◌, length, get_or, take, drop, Some, None, Option, sym, refl, ap, ◌∙◌, arith}
 use native.Mathlib.Nat.{div-div-eq-div-mul}
-use Rattle.std.proofs.lemmas.List.{length-append, length-take-le, length-drop, drop_at, take-append-drop, nil_from_length, take_more}
+use Rattle.std.proofs.lemmas.List.{length-take-le, length-drop, drop_at, take-append-drop, take_more}
 use Rattle.std.proofs.lemmas.Bool.Decides.{nat_tests}
 use Rattle.rows.specs.declared.refusal.Refusal.{Refusal}
-use Rattle.plan_file.specs.Records.{Segment, record_size, record_bytes, records_bytes, tag_bytes, segment_at, segments_at}
+use Rattle.plan_file.specs.Records.{Segment, record_size, record_bytes, records_bytes, segments_at}
 use Rattle.plan_file.specs.Faults.{or_else}
 use Rattle.plan_file.specs.Heads.{head_of}
-use Rattle.plan_file.specs.Writing.{header_size, header_bytes, header_fault, write_fault}
-use Rattle.plan_file.specs.Reading.{read_fault, takes}
+use Rattle.plan_file.specs.Writing.{header_size, header_bytes}
 use Rattle.plan_file.specs.Opening.{open_fault, file_processors, file_scale}
-use Rattle.plan_file.specs.Files.{file_bytes, records_in, records_fault, file_fault, file_records, file_segments}
+use Rattle.plan_file.specs.Files.{file_bytes, records_in, records_fault, file_segments}
 use Rattle.plan_file.specs.RoundTrip.{Below, Writable, EachWritable, WrittenFileReads, ReadFileWrites}
 use Rattle.plan_file.proofs.Tags.{length_tag_bytes}
 use Rattle.plan_file.proofs.NextRecord.{some_took}

@@ -1,5 +1,5 @@
 -- A segment and its record in a plan file: length (8 bytes), kind (1), and a tag (2) for each of m processors.
-use Rattle.std.specs.Prelude.{ℕ, zero, suc, ◌+◌, ◌-◌, ◌*◌, Bool, true, false, ◌&&◌, List, [], ◌∷◌, ◌++◌, take, drop, replicate, slice_index}
+use Rattle.std.specs.Prelude.{ℕ, zero, suc, ◌+◌, ◌-◌, ◌*◌, List, [], ◌∷◌, ◌++◌, take, drop, replicate, slice_index}
 use Rattle.plan_file.specs.Bytes.{be16, be64, at16, first64}
 
 -- the tags of 16 processors, with how long they ran and the kind of the event that ended it

@@ -1,15 +1,11 @@
 -- A lawful choice over sound tokens can be run.
-use Rattle.std.proofs.Common.{◌≡◌, ℕ, ◌+◌, ◌-◌, ◌^◌, ◌<◌, ◌≤◌, min, Bool, true, false, cond, not, eqb, ltb, List, [], ◌∷◌, map, get_or, filter, sym, refl, ap, ◌∙◌, subst, inl, inr, arith, eq-eqb, ne_eqb}
+use Rattle.std.proofs.Common.{◌≡◌, ℕ, ◌+◌, ◌-◌, ◌^◌, ◌<◌, ◌≤◌, min, Bool, true, false, cond, not, eqb, ltb, List, [], ◌∷◌, map, get_or, filter, sym, refl, ap, ◌∙◌, inl, inr, arith, eq-eqb, ne_eqb}
 use Rattle.std.proofs.lemmas.Bool.{cases_lt, cases_eq, lt-ltb, le-ltb}
 use Rattle.std.specs.List.{range_with_len, AllByRecursion as All}
 use Rattle.std.proofs.ByRecursion.{All-weaker}
 use Rattle.rows.specs.declared.memory.Token.{Token}
-use Rattle.rows.specs.declared.kind.Kind.{Kind}
-use Rattle.rows.specs.declared.kind.Kind.TheVariants.{Bottom, Ceiling, Both, PlaneEnd}
-use Rattle.rows.specs.Kinds.{kind_number}
 use Rattle.rows.specs.Tests.{has, distinct}
 use Rattle.rules.specs.Keys.{Key, Lawful}
-use Rattle.model.specs.Members.{In}
 use Rattle.model.specs.Steps.{free, assigned, chosen, distance, event, moved}
 use Rattle.model.proofs.Bounds.{Sound, reach}
 use Rattle.model.proofs.Chosen.{fair, at_most_m}

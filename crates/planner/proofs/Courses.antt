@@ -1,5 +1,5 @@
 -- The course of a finish: steps made so far, and their records.
-use Rattle.std.proofs.Common.{◌≡◌, ℕ, zero, suc, ◌+◌, ◌-◌, ◌*◌, ◌^◌, ◌<◌, ◌≤◌, Bool, true, false, cond, eqb, List, [], ◌∷◌, ◌++◌, length, take, drop, None, Ok, Result, sym, refl, ap, ◌∙◌, subst, mul-le-mul_right, arith, ne_eqb}
+use Rattle.std.proofs.Common.{◌≡◌, ℕ, zero, suc, ◌+◌, ◌-◌, ◌*◌, ◌<◌, ◌≤◌, cond, List, [], ◌∷◌, ◌++◌, length, take, drop, None, Ok, Result, sym, refl, ap, ◌∙◌, subst, mul-le-mul_right, arith, ne_eqb}
 use mathlib.Core.Path.{transport}
 use Rattle.std.proofs.lemmas.List.{append_assoc, append-nil, length-append, take_at, drop_at, drop-drop, length-drop}
 use Rattle.std.proofs.lemmas.Bool.Decides.{nat_tests}
@@ -8,11 +8,9 @@ use Rattle.rows.specs.declared.refusal.Refusal.{Refusal}
 use Rattle.plan_file.specs.Faults.{answered}
 use Rattle.rules.specs.Keys.{Key, Lawful}
 use Rattle.plan_file.specs.Records.{Segment, record_size, record_bytes, records_bytes}
-use Rattle.plan_file.specs.RoundTrip.{Writable}
 use Rattle.plan_file.specs.Writing.{write_fault}
 use Rattle.model.specs.Steps.{step}
 use Rattle.model.specs.Planes.{steps}
-use Rattle.model.proofs.Bounds.{Sound}
 use Rattle.model.proofs.Finishes.{Going, step_going}
 use Rattle.model.proofs.Readback.{length_record}
 use Rattle.model.proofs.Segments.{Good, step_good}

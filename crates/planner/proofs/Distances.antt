@@ -1,11 +1,10 @@
 -- The distance to the next event and its kind, from the least time left of the chosen tokens and the most of the others.
-use Rattle.std.proofs.Common.{◌≡◌, ℕ, ◌+◌, ◌-◌, ◌<◌, ◌≤◌, min, max, Bool, true, false, cond, not, ◌&&◌, ◌||◌, eqb, List, [], ◌∷◌, sym, refl, ap, ◌∙◌, ⊎_elim, arith, eq-eqb, ne_eqb}
+use Rattle.std.proofs.Common.{◌≡◌, ℕ, ◌+◌, ◌-◌, ◌<◌, ◌≤◌, min, max, Bool, true, false, cond, not, ◌&&◌, ◌||◌, eqb, List, [], ◌∷◌, sym, ap, ◌∙◌, ⊎_elim, arith, eq-eqb, ne_eqb}
 use Rattle.std.proofs.Permutation.{which}
-use Rattle.std.proofs.lemmas.Bool.Decides.{nat_tests}
 use Rattle.rows.specs.declared.memory.Token.{Token}
 use Rattle.rows.specs.Tests.{any}
 use Rattle.model.specs.Members.{In, here, there}
-use Rattle.model.specs.Steps.{gap, distance, event}
+use Rattle.model.specs.Steps.{distance, event}
 use Rattle.planner.specs.Looking.{least_left, most_left}
 
 -- the least of two is d where one of them is

@@ -1,5 +1,5 @@
 -- Weights of tasks.
-use Rattle.std.proofs.Common.{◌≡◌, ℕ, ◌*◌, ◌/◌, ◌%◌, ◌<◌, ◌≤◌, true, sym, mul-le-mul_right, arith}
+use Rattle.std.proofs.Common.{◌≡◌, ℕ, ◌*◌, ◌/◌, ◌%◌, ◌≤◌, true, sym, mul-le-mul_right, arith}
 use native.Mathlib.Nat.{div-le_of_le-mul, mul-div_assoc, dvd_of_mod-eq-zero}
 use Rattle.std.proofs.lemmas.Bool.Decides.{nat_tests}
 use Rattle.rows.specs.declared.memory.Task.{Task}

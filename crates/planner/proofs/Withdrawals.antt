@@ -1,15 +1,15 @@
 -- A row of memory that fits, and its withdrawal.
-use Rattle.std.proofs.Common.{◌≡◌, ℕ, zero, suc, ◌+◌, ◌-◌, ◌*◌, ◌/◌, ◌%◌, ◌<◌, ◌≤◌, Bool, true, false, ◌&&◌, eqb, List, [], ◌∷◌, ◌++◌, length, get_or, take, drop, Some, None, Ok, Err, sum_by, Option, Result, sym, refl, ap, ◌∙◌, subst, arith, eq-eqb, ne_eqb}
-use Rattle.std.proofs.lemmas.List.{get_or-take, length-take-le, append_assoc}
+use Rattle.std.proofs.Common.{◌≡◌, ℕ, zero, suc, ◌+◌, ◌-◌, ◌<◌, ◌≤◌, Bool, true, false, List, [], ◌∷◌, ◌++◌, length, get_or, take, drop, Some, Ok, Err, sum_by, Result, sym, refl, ap, ◌∙◌, subst, arith}
+use Rattle.std.proofs.lemmas.List.{get_or-take, length-take-le}
 use Rattle.std.proofs.lemmas.List.Sums.{sum_by-take-drop, sum_by-drop_more}
 use Rattle.std.proofs.lemmas.Bool.Decides.{nat_tests}
 use Rattle.rows.specs.declared.memory.Task.{Task}
 use Rattle.rows.specs.declared.refusal.Refusal.{Refusal}
-use Rattle.rows.specs.declared.refusal.Refusal.TheVariants.{Memory, TagAbsent, NotReleased}
+use Rattle.rows.specs.declared.refusal.Refusal.TheVariants.{NotReleased}
 use Rattle.rows.specs.Tests.{all, rising}
 use Rattle.model.specs.Answers.{Changes}
-use Rattle.model.specs.State.{Rest, unless}
-use Rattle.model.specs.Tables.{tags, weight, sound_task, tasks_fit, found, zeros, without, released, with_load, withdrawn}
+use Rattle.model.specs.State.{Rest}
+use Rattle.model.specs.Tables.{tags, weight, sound_task, tasks_fit, found, zeros, released, with_load, withdrawn}
 use Rattle.planner.specs.Admission.{Stands}
 use Rattle.planner.proofs.Weights.{Sound, sound_parts}
 use Rattle.planner.proofs.Shifts.{without_at}

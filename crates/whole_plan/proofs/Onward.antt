@@ -1,5 +1,5 @@
 -- The run of calls that a whole plan makes: its planes.
-use Rattle.std.proofs.Common.{◌≡◌, ℕ, ◌+◌, ◌-◌, ◌*◌, ◌<◌, ◌≤◌, Bool, true, false, cond, ◌&&◌, eqb, ltb, leb, List, [], ◌∷◌, ◌++◌, map, reverse, length, take, drop, replicate, Ok, Err, sym, refl, ap, ◌∙◌, subst, append_assoc, mul-pos, arith}
+use Rattle.std.proofs.Common.{◌≡◌, ℕ, ◌+◌, ◌-◌, ◌*◌, ◌<◌, ◌≤◌, true, false, leb, List, [], ◌∷◌, ◌++◌, map, reverse, length, take, drop, replicate, Ok, Err, sym, refl, ap, ◌∙◌, mul-pos, arith}
 use Rattle.std.specs.List.{AllByRecursion as All}
 use Rattle.std.proofs.lemmas.List.{length-replicate, length-take, take_at, reverse-append}
 use Rattle.std.proofs.lemmas.Bool.{lt-ltb, le-leb, eq-eqb}
@@ -24,7 +24,7 @@ use Rattle.model.proofs.Accepted.{finish_of}
 use Rattle.model.proofs.Calls.{Inv, always}
 use Rattle.model.proofs.Largest.{lawful}
 use Rattle.planner.proofs.Fitting.{finish_accepted}
-use Rattle.whole_plan.specs.Planning.{plane_room, plane_into, plane_planned, Planned}
+use Rattle.whole_plan.specs.Planning.{plane_room, plane_into, plane_planned}
 use Rattle.whole_plan.proofs.Words.{then_on, then_err}
 use Rattle.whole_plan.proofs.Reached.{Reached, run_on}
 

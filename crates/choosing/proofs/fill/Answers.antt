@@ -1,4 +1,4 @@
-use Rattle.std.proofs.Common.{◌≡◌, ◌+◌, ◌<◌, true, false, ◌∷◌, length, get_or, take, sym, refl, ap, ◌∙◌, subst, arith, le-ltb, lt-ltb}
+use Rattle.std.proofs.Common.{◌≡◌, ◌<◌, true, false, ◌∷◌, length, get_or, take, sym, refl, ◌∙◌, subst, arith, le-ltb, lt-ltb}
 use borrow.Author.Tests.{eqb-false}
 use Rattle.std.specs.List.Sorted.{IsPermutation}
 use Rattle.std.proofs.lemmas.List.{take_more}
@@ -6,7 +6,6 @@ use Rattle.rows.specs.declared.memory.Token.{Token}
 use Rattle.queue.specs.Held.{held}
 use Rattle.queue.proofs.Heap.{heap_none}
 use Rattle.model.specs.Steps.{active}
-use Rattle.choosing.specs.Entries.{entry_of}
 use Rattle.choosing.specs.Keeping.{last_first, KeepsFirst}
 use Rattle.choosing.proofs.Firsts.{no_elements, keeps_none, passed, entered}
 use Rattle.choosing.proofs.Taking.{accepted}

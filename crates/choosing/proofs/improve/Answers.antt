@@ -1,4 +1,4 @@
-use Rattle.std.proofs.Common.{◌≡◌, ◌+◌, List, [], ◌∷◌, ◌++◌, length, get_or, take, sym, refl, ap, ◌∙◌, subst, append_assoc, arith}
+use Rattle.std.proofs.Common.{◌≡◌, ◌+◌, List, [], ◌∷◌, ◌++◌, length, get_or, take, sym, ap, ◌∙◌, subst, append_assoc, arith}
 use Rattle.std.specs.List.Sorted.{IsPermutation}
 use Rattle.std.proofs.lemmas.List.{take_more, take_all}
 use Rattle.std.proofs.lemmas.List.Sorted.{length_permutation}
@@ -6,7 +6,6 @@ use Rattle.std.specs.declared.cmp.Reverse.{Reverse}
 use Rattle.rows.specs.declared.memory.Token.{Token}
 use Rattle.queue.specs.Held.{held}
 use Rattle.choosing.specs.declared.entry.Entry.{Entry}
-use Rattle.choosing.specs.Entries.{entry_of}
 use Rattle.choosing.specs.Keeping.{last_first, KeepsFirst}
 use Rattle.choosing.proofs.Firsts.{comes, stays, some_full, last_of_full, top_there}
 use Rattle.choosing.proofs.Taking.{at_some}

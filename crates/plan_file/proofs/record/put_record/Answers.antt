@@ -1,4 +1,4 @@
-use Rattle.std.proofs.Common.{◌≡◌, ◌*◌, [], ◌∷◌, ◌++◌, length, refl, arith}
+use Rattle.std.proofs.Common.{◌*◌, [], ◌∷◌, ◌++◌, length, refl, arith}
 use Rattle.plan_file.specs.Bytes.{be64}
 use Rattle.plan_file.specs.Records.{tag_bytes}
 use Rattle.plan_file.proofs.Lent.{lent_behind}

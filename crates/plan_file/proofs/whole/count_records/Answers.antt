@@ -1,10 +1,10 @@
-use Rattle.std.proofs.Common.{◌≡◌, ◌+◌, ◌^◌, ◌<◌, ◌≤◌, cond, length, drop, Some, None, Ok, Err, sym, refl, ap, ◌∙◌, div-le_self, arith, rules}
+use Rattle.std.proofs.Common.{◌^◌, ◌<◌, ◌≤◌, length, drop, Ok, sym, ap, ◌∙◌, div-le_self, arith, rules}
 use Rattle.std.proofs.lemmas.List.{length-drop}
 use Rattle.std.proofs.lemmas.Result.{err_from_is_err_and}
 use Rattle.plan_file.specs.Records.{record_size}
 use Rattle.plan_file.specs.Faults.{answered, or_else}
-use Rattle.plan_file.specs.Reading.{next_answer, takes}
-use Rattle.plan_file.specs.Opening.{open_fault, file_processors}
+use Rattle.plan_file.specs.Reading.{next_answer}
+use Rattle.plan_file.specs.Opening.{file_processors}
 use Rattle.plan_file.specs.Files.{records_in, records_fault, file_records}
 use Rattle.plan_file.proofs.ReadOn.{Took, ended_on, failed_on, of_file}
 use Rattle.plan_file.proofs.Copied.{reader_took}

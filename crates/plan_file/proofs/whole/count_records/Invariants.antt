@@ -1,4 +1,4 @@
-use Rattle.std.proofs.Common.{◌≡◌, ◌+◌, ◌-◌, ◌≤◌, length, drop, None}
+use Rattle.std.proofs.Common.{◌≡◌, ◌+◌, ◌-◌, length, drop, None}
 use Rattle.plan_file.specs.Opening.{open_fault, file_processors}
 use Rattle.plan_file.specs.Files.{records_in, records_fault}
 use Rattle.plan_file.proofs.whole.count_records.Given as goal

@@ -1,6 +1,5 @@
-use Rattle.std.proofs.Common.{◌≡◌, length, Some, None, Ok, Err, sym, refl, ap, ◌∙◌, arith, rules}
+use Rattle.std.proofs.Common.{length, refl, arith}
 use Rattle.std.proofs.lemmas.Result.{err_from_is_err_and}
-use Rattle.std.proofs.lemmas.Bool.Decides.{nat_tests}
 use Rattle.plan_file.specs.Files.{file_fault, file_records}
 use Rattle.plan_file.proofs.Fault.{fault_is, fault_none}
 use Rattle.plan_file.proofs.Copied.{rewrite_bad, rewrite_short, rewrite_fine}

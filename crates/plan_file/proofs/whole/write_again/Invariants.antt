@@ -1,4 +1,4 @@
-use Rattle.std.proofs.Common.{◌≡◌, ◌+◌, ◌-◌, ◌≤◌, ◌++◌, length, take, drop, None}
+use Rattle.std.proofs.Common.{◌≡◌, ◌-◌, ◌≤◌, ◌++◌, length, take, drop, None}
 use Rattle.plan_file.specs.Opening.{file_processors}
 use Rattle.plan_file.specs.Files.{records_fault}
 use Rattle.plan_file.proofs.whole.write_again.Given as goal

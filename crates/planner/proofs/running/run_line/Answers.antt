@@ -1,11 +1,11 @@
-use Rattle.std.proofs.Common.{◌≡◌, ◌-◌, ◌≤◌, map, length, take, drop, sym, refl, ap, ◌∙◌, subst, arith, rules}
+use Rattle.std.proofs.Common.{◌≡◌, ◌-◌, ◌≤◌, map, length, drop, sym, refl, ap, ◌∙◌, subst, arith, rules}
 use Rattle.std.proofs.lemmas.List.{take_rest, length-drop}
 use Rattle.model.proofs.Finishes.{first}
 use Rattle.rows.specs.Kinds.{kind_number}
 use Rattle.planner.specs.Lining.{Kept, Strides, seated}
 use Rattle.planner.proofs.Chooses.{on_processors}
 use Rattle.planner.proofs.Courses.{course_none, course_is, course_over, room, falls}
-use Rattle.planner.proofs.Racing.{Racing, racing_none, goes_on, units_is, tags_long}
+use Rattle.planner.proofs.Racing.{racing_none, goes_on, units_is, tags_long}
 use Rattle.planner.proofs.running.run_line.Goals as goal
 
 pub row_of-places-requires : goal.row_of-places-requires

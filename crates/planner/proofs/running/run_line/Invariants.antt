@@ -1,4 +1,3 @@
-use Rattle.std.proofs.Common.{◌≡◌, length}
 use Rattle.planner.proofs.Racing.{Racing}
 use Rattle.planner.proofs.running.run_line.Given as goal
 

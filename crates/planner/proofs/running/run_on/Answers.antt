@@ -1,4 +1,4 @@
-use Rattle.std.proofs.Common.{◌≡◌, false, not, get_or, sym, ap, ◌∙◌, arith}
+use Rattle.std.proofs.Common.{false, not, get_or, sym, ap, ◌∙◌}
 use Rattle.planner.specs.Lining.{settled, those}
 use Rattle.planner.proofs.Onward.{all_seated}
 use Rattle.planner.proofs.RunOn.{same_places, settled_on, spare_low, unmarked_all}

@@ -1,7 +1,6 @@
-use Rattle.std.proofs.Common.{◌≡◌, ℕ, ◌-◌, ◌≤◌, List, ◌++◌, map, length, take, drop, sym, ap, ◌∙◌, subst, arith, rules}
+use Rattle.std.proofs.Common.{◌≡◌, ◌-◌, ◌≤◌, ◌++◌, map, length, take, drop, sym, ap, ◌∙◌, subst, arith, rules}
 use mathlib.Core.Path.{transport}
 use Rattle.std.proofs.lemmas.List.{length-take}
-use Rattle.rows.specs.declared.memory.Token.{Token}
 use Rattle.rows.specs.Kinds.{kind_number}
 use Rattle.rules.specs.Keys.{largest_first}
 use Rattle.model.proofs.Largest.{lawful}

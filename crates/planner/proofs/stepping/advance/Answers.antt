@@ -1,7 +1,6 @@
-use Rattle.std.proofs.Common.{◌≡◌, ℕ, ◌-◌, Bool, true, cond, List, map, sym, ap, ◌∙◌, arith}
+use Rattle.std.proofs.Common.{◌≡◌, ◌-◌, Bool, true, cond, map, sym, ap, ◌∙◌, arith}
 use mathlib.Core.Path.{transport}
 use Rattle.rows.specs.declared.memory.Token.{Token}
-use Rattle.rows.specs.Kinds.{kind_number}
 use Rattle.rows.specs.Tests.{distinct}
 use Rattle.model.specs.Steps.{chosen, distance, moved, event, row_of}
 use Rattle.model.proofs.Bounds.{reach}

@@ -1,4 +1,4 @@
-use Rattle.std.proofs.Common.{◌≡◌, ℕ, ◌+◌, ◌<◌, Bool, true, false, not, get_or, ap, subst, arith}
+use Rattle.std.proofs.Common.{◌≡◌, ℕ, ◌<◌, Bool, false, not, get_or, ap, subst, arith}
 use Rattle.planner.proofs.Free.{Filled, filled_none, filled_more, filled_same, filled_at}
 use Rattle.planner.proofs.stepping.free_processors.Goals as goal
 use Rattle.planner.proofs.stepping.free_processors.Goals.{then-not-taken-i, else-not-taken-i}

@@ -1,4 +1,4 @@
-use Rattle.std.proofs.Common.{◌≡◌, ℕ, ◌+◌, ◌-◌, ◌<◌, true, cond, List, ◌++◌, length, take, drop, is_ok, sym, refl, ap, ◌∙◌, subst, arith}
+use Rattle.std.proofs.Common.{◌≡◌, ℕ, ◌+◌, ◌-◌, cond, List, ◌++◌, length, take, drop, is_ok, sym, refl, ap, ◌∙◌, arith}
 use Rattle.plan_file.specs.Records.{Segment, record_size, record_bytes}
 use Rattle.rows.specs.Kinds.{kind_number}
 use Rattle.plan_file.proofs.Fault.{answer_is}

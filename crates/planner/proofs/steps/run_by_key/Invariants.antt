@@ -1,4 +1,4 @@
-use Rattle.std.proofs.Common.{◌≡◌, length}
+use Rattle.std.proofs.Common.{length}
 use Rattle.planner.proofs.Courses.{Course}
 use Rattle.planner.proofs.steps.run_by_key.Given as goal
 

@@ -1,7 +1,7 @@
 use Rattle.std.proofs.Common.{◌+◌, arith}
 use Rattle.std.proofs.lemmas.List.{at_drop_more, at_drop_all, take_rest}
 use Rattle.std.proofs.lemmas.Bool.Decides.{nat_tests}
-use Rattle.rows.specs.Tests.{has, distinct}
+use Rattle.rows.specs.Tests.{distinct}
 use Rattle.rows.proofs.row.are_distinct.Goals as goal
 use Rattle.rows.proofs.row.are_distinct.Goals.{else-tag-ne0-via-then-tag-ne0+else-stands_in, else-tag-ne0-via-else-tag-ne0}
 

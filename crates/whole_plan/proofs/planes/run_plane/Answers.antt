@@ -1,12 +1,10 @@
-use Rattle.std.proofs.Common.{◌≡◌, Ok, Err, ◌∙◌, rules}
+use Rattle.std.proofs.Common.{◌∙◌}
 use Rattle.std.proofs.lemmas.Result.{err_from_is_err_and}
 use Rattle.rules.specs.Keys.{largest_first}
-use Rattle.model.specs.State.{ended}
 use Rattle.model.specs.Tables.{started}
 use Rattle.model.specs.Planes.{finished}
 use Rattle.planner.specs.Views.{rest, plane}
-use Rattle.whole_plan.specs.Planning.{and_then}
-use Rattle.whole_plan.proofs.Words.{moves_over_ok, moves_over_err, answering_ok, answering_err, moves_ok, moves_err, then_on, then_err}
+use Rattle.whole_plan.proofs.Words.{moves_over_ok, moves_over_err, answering_err, then_on, then_err}
 use Rattle.whole_plan.proofs.planes.run_plane.Goals as goal
 
 pub returns-in-Err : goal.returns-in-Err

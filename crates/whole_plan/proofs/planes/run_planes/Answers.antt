@@ -1,4 +1,4 @@
-use Rattle.std.proofs.Common.{◌≡◌, Ok, refl, ap, ◌∙◌, arith}
+use Rattle.std.proofs.Common.{Ok, ap, ◌∙◌, arith}
 use Rattle.planner.specs.Views.{rest}
 use Rattle.whole_plan.proofs.Through.{no_refusal, in_room, turned, all_run}
 use Rattle.whole_plan.proofs.planes.run_planes.Goals as goal

@@ -1,4 +1,4 @@
-use Rattle.std.proofs.Common.{◌≡◌, ◌-◌, ◌++◌, length, take, drop, None, Ok, sym, ap, ◌∙◌, arith}
+use Rattle.std.proofs.Common.{◌≡◌, ◌-◌, ◌++◌, length, take, drop, None, Ok, ap, ◌∙◌, arith}
 use Rattle.plan_file.specs.Writing.{header_bytes, header_fault}
 use Rattle.plan_file.proofs.Fault.{answer_is}
 use Rattle.plan_file.proofs.Copied.{no_fault}

@@ -1,6 +1,5 @@
-use Rattle.std.proofs.Common.{◌≡◌, ◌*◌, ◌++◌, map, length, get_or, take, drop, set, sym, ap, ◌∙◌, mul-le-mul, arith}
+use Rattle.std.proofs.Common.{◌≡◌, ◌*◌, ◌++◌, map, length, get_or, drop, set, ap, ◌∙◌, mul-le-mul, arith}
 use Rattle.std.proofs.lemmas.List.{take_all}
-use Rattle.rows.specs.declared.memory.Token.{Token}
 use Rattle.model.specs.Tables.{sound_task, token, zeros}
 use Rattle.planner.specs.Views.{rest}
 use Rattle.planner.proofs.Weights.{sound_parts, sound_weight}

@@ -1,4 +1,4 @@
-use Rattle.std.proofs.Common.{◌≡◌, ◌≤◌, true, get_or, sum_by, sym, arith, rules}
+use Rattle.std.proofs.Common.{◌≡◌, ◌≤◌, true, get_or, sum_by, sym, arith}
 use Rattle.std.proofs.lemmas.List.{at_drop_more, at_drop_all}
 use Rattle.std.proofs.lemmas.List.Sums.{sum_by-drop_more}
 use Rattle.std.proofs.lemmas.Bool.Decides.{nat_tests}
@@ -6,7 +6,7 @@ use Rattle.rows.specs.declared.memory.Task.{Task}
 use Rattle.rows.specs.Tests.{all}
 use Rattle.model.specs.Tables.{weight, sound_task}
 use Rattle.planner.specs.Views.{rest}
-use Rattle.planner.proofs.Weights.{sound_parts, sound_weight}
+use Rattle.planner.proofs.Weights.{sound_weight}
 use Rattle.planner.proofs.board.Board.weigh.Goals as goal
 
 abbrev blank : Task

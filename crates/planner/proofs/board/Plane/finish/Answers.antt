@@ -1,4 +1,4 @@
-use Rattle.std.proofs.Common.{◌≡◌, ℕ, ◌+◌, ◌-◌, ◌*◌, ◌≤◌, List, ◌++◌, length, take, drop, sym, refl, ap, ◌∙◌, arith}
+use Rattle.std.proofs.Common.{◌≡◌, ℕ, ◌+◌, ◌-◌, ◌*◌, List, ◌++◌, length, take, drop, sym, refl, ap, ◌∙◌, arith}
 use Rattle.rows.specs.declared.memory.Token.{Token}
 use Rattle.plan_file.specs.Records.{Segment, records_bytes, record_size}
 use Rattle.model.specs.Planes.{with_span, steps, finished}
