@@ -108,10 +108,9 @@ impl Plane {
 
 // Whether no processor but 0 stands twice.
 fn processors_differ(rows: &[Token]) -> bool
-    requires { All (λ x. x.processor ≤ 16) rows.now }
     ensures { result ≡ distinct (map (λ x. x.processor) rows.now) }
 {
-    let mut taken = [false; 17];
+    let mut taken = [false; 256];
     for token in rows {
         let processor = token.processor as usize;
         if processor > 0 && taken[processor] {

@@ -92,15 +92,16 @@ struct Choice {
     last: Option<Entry>,
     // the processors for chosen tokens that have none, in order
     spare: [u8; 16],
-    event: Event,
+    length: u64,
+    kind: Kind,
 }
 
 // Runs the chosen rows, and gives the tags by processor. A chosen row without a processor takes the spare one of its
 // turn; a row that is not chosen has none.
 fn run<R: Rule>(rows: &mut [Token], rule: &R, span: u64, choice: &Choice) -> [u16; 16]
-    requires { Runnable choice.now.processors (picked (R.Rule.ranks rule.now) span choice.now.last) choice.now.event.length choice.now.spare rows.old }
-    ensures rows { rows.new ≡ map (moved choice.now.processors (picked (R.Rule.ranks rule.now) span choice.now.last) rows.old choice.now.event.length) rows.old }
-    ensures places { result ≡ row_of (map (moved choice.now.processors (picked (R.Rule.ranks rule.now) span choice.now.last) rows.old choice.now.event.length) rows.old) }
+    requires { Runnable choice.now.processors (picked (R.Rule.ranks rule.now) span choice.now.last) choice.now.length choice.now.spare rows.old }
+    ensures rows { rows.new ≡ map (moved choice.now.processors (picked (R.Rule.ranks rule.now) span choice.now.last) rows.old choice.now.length) rows.old }
+    ensures places { result ≡ row_of (map (moved choice.now.processors (picked (R.Rule.ranks rule.now) span choice.now.last) rows.old choice.now.length) rows.old) }
 {
     let mut places = [0; 16];
     let mut turn = 0;
@@ -111,7 +112,7 @@ fn run<R: Rule>(rows: &mut [Token], rule: &R, span: u64, choice: &Choice) -> [u1
                 turn += 1;
             }
             places[token.processor as usize - 1] = token.tag;
-            token.left -= choice.event.length;
+            token.left -= choice.length;
         } else {
             token.processor = 0;
         }
@@ -124,11 +125,11 @@ fn choose<R: Rule>(rows: &[Token], rule: &R, processors: u8, span: u64) -> Choic
     requires sound { Sound processors span rows.now }
     requires some { 0 < span }
     requires short { span ≤ 2 ^ 54 }
-    ensures runnable { Runnable processors (chosen processors (R.Rule.ranks rule.now) span rows.now) result.event.length result.spare rows.now }
+    ensures runnable { Runnable processors (chosen processors (R.Rule.ranks rule.now) span rows.now) result.length result.spare rows.now }
     ensures same { result.processors ≡ processors }
     ensures picks { (x : Token) → chosen processors (R.Rule.ranks rule.now) span rows.now x ≡ picked (R.Rule.ranks rule.now) span result.last x }
-    ensures length { result.event.length ≡ distance (chosen processors (R.Rule.ranks rule.now) span rows.now) span rows.now }
-    ensures kind { kind_number result.event.kind ≡ event (chosen processors (R.Rule.ranks rule.now) span rows.now) result.event.length (span - result.event.length) rows.now }
+    ensures length { result.length ≡ distance (chosen processors (R.Rule.ranks rule.now) span rows.now) span rows.now }
+    ensures kind { kind_number result.kind ≡ event (chosen processors (R.Rule.ranks rule.now) span rows.now) result.length (span - result.length) rows.now }
 {
     let m = processors as usize;
     let last = last_chosen(rows, rule, span, m);
@@ -139,7 +140,8 @@ fn choose<R: Rule>(rows: &[Token], rule: &R, processors: u8, span: u64) -> Choic
         processors,
         last,
         spare,
-        event,
+        length: event.length,
+        kind: event.kind,
     }
 }
 
@@ -162,5 +164,8 @@ pub(crate) fn advance<R: Rule>(
     let places = run(rows, rule, span, &choice);
     // no tag stands twice in it, so the row takes it
     let _ = row.fill(places);
-    choice.event
+    Event {
+        length: choice.length,
+        kind: choice.kind,
+    }
 }

@@ -1,6 +1,4 @@
-use Rattle.std.proofs.Common.{◌≡◌, ℕ, ◌+◌, ◌<◌, ◌≤◌, true, false, not, ◌||◌, eqb, List, [], ◌∷◌, ◌++◌, map, length, get_or, take, drop, set, sym, refl, ap, ◌∙◌, subst, arith}
-use Rattle.std.specs.List.{AllByRecursion as All}
-use Rattle.std.proofs.ByRecursion.{All-get_or}
+use Rattle.std.proofs.Common.{◌≡◌, ℕ, ◌+◌, ◌<◌, Bool, true, false, not, ◌&&◌, ◌||◌, eqb, List, [], ◌∷◌, ◌++◌, map, length, get_or, take, drop, set, sym, refl, ap, ◌∙◌, subst, arith, rules}
 use Rattle.std.proofs.lemmas.List.{take_more, take_all, take-append-drop, map-append, length-set}
 use Rattle.std.proofs.lemmas.Bool.Decides.{nat_tests}
 use Rattle.rows.specs.declared.memory.Token.{Token}
@@ -15,29 +13,19 @@ blank = record { tag = 0; left = 0; processor = 0 }
 abbrev processors : List Token → List ℕ
 processors = map (λ x. x.processor)
 
--- a row's processor has its place among the marks
-on : (rows : List Token) (i : ℕ) → i < length rows → All (λ x. x.processor ≤ 16) rows → (get_or rows i blank).processor ≤ 16
-on rows i h few = All-get_or (λ (x : Token). x.processor ≤ 16) rows i blank h few
-
 -- the processors with one row more
 more : (rows : List Token) (i : ℕ) → i < length rows → processors (take (i + 1) rows) ≡ processors (take i rows) ++ (get_or rows i blank).processor ∷ []
 more rows i h = ap processors (take_more rows i blank h) ∙ map-append (λ (x : Token). x.processor) (take i rows) (get_or rows i blank ∷ [])
 
 pub loop-token-init : goal.loop-token-init
-loop-token-init c = (refl, refl, marks_none 17)
-
-pub bounds-taken-processor : goal.bounds-taken-processor
-bounds-taken-processor c = omega (arith, on c.args.rows.now c.loop-token.token-index (omega arith) c.requires, c.loop-token.invariant.0)
-
-pub bounds-taken-processor-in-loop-token : goal.bounds-taken-processor-in-loop-token
-bounds-taken-processor-in-loop-token c = omega (arith, on c.args.rows.now c.loop-token.token-index (omega arith) c.requires, c.loop-token.invariant.0)
+loop-token-init c = (refl, refl, marks_none 256)
 
 pub returns-then-taken-processor : goal.returns-then-taken-processor
 returns-then-taken-processor c =
     let rows = c.args.rows.now in
     let i = c.loop-token.token-index in
     let q = (get_or rows i blank).processor in
-    let small : q < length c.loop-token.taken = omega (arith, on rows i (omega arith) c.requires, c.loop-token.invariant.0) in
+    let small : q < length c.loop-token.taken = search rules in
     let was : true ≡ has q (processors (take i rows)) = sym c.if-taken-processor.true ∙ c.loop-token.invariant.2 q small in
     let push = distinct_push q (processors (take i rows)) in
     let twice : distinct (processors (take (i + 1) rows)) ≡ false = ap distinct (more rows i (omega arith)) ∙ grind (arith, nat_tests) in
@@ -56,7 +44,7 @@ loop-token-preserved c =
     let i = c.loop-token.token-index in
     let q = (get_or rows i blank).processor in
     let inv = c.loop-token.invariant in
-    let small : q < length c.loop-token.taken = omega (arith, on rows i (omega arith) c.requires, inv.0) in
+    let small : q < length c.loop-token.taken = search rules in
     let mark = inv.2 q small in (
       length-set c.loop-token.taken q true ∙ inv.0,
       elim c.else-processor-gt0.branch [

@@ -9,7 +9,7 @@ use Rattle.planner.proofs.stepping.run.Goals.{then-is_chosen, then-token-eq0, el
 pub loop-token-init : goal.loop-token-init
 loop-token-init g c =
     let a = c.args.choice.now in
-    (refl, moving_none a.processors (picked (g.R.Rule.ranks c.args.rule.now) c.args.span a.last) a.event.length c.args.rows.now)
+    (refl, moving_none a.processors (picked (g.R.Rule.ranks c.args.rule.now) c.args.span a.last) a.length c.args.rows.now)
 
 pub bounds-choice-turn : goal.bounds-choice-turn
 bounds-choice-turn g c =
@@ -18,7 +18,7 @@ bounds-choice-turn g c =
     let ts = c.args.rows.now in
     let l = c.loop-token in
     let inside : l.token-index < length ts = omega arith in
-    room a.processors picks a.event.length a.spare ts c.requires l.token-index l.rows l.turn l.places inside l.invariant.1 (sym c.if-is_chosen.ensures) c.if-token-eq0.true
+    room a.processors picks a.length a.spare ts c.requires l.token-index l.rows l.turn l.places inside l.invariant.1 (sym c.if-is_chosen.ensures) c.if-token-eq0.true
 
 pub overflow_add-turn : goal.overflow_add-turn
 overflow_add-turn g c =
@@ -27,7 +27,7 @@ overflow_add-turn g c =
     let ts = c.args.rows.now in
     let l = c.loop-token in
     let inside : l.token-index < length ts = omega arith in
-    omega (arith, room a.processors picks a.event.length a.spare ts c.requires l.token-index l.rows l.turn l.places inside l.invariant.1 (sym c.if-is_chosen.ensures) c.if-token-eq0.true)
+    omega (arith, room a.processors picks a.length a.spare ts c.requires l.token-index l.rows l.turn l.places inside l.invariant.1 (sym c.if-is_chosen.ensures) c.if-token-eq0.true)
 
 pub overflow_sub-places : goal.overflow_sub-places
 overflow_sub-places g c =
@@ -37,7 +37,7 @@ overflow_sub-places g c =
     let l = c.loop-token in
     let inside : l.token-index < length ts = omega arith in
     elim c.if-token-eq0.branch [
-      | then-token-eq0 v ↦ omega (arith, ap (λ (t : Token). t.processor) v.token-is, spare_number a.processors picks a.event.length a.spare ts c.requires l.token-index l.rows l.turn l.places inside l.invariant.1 (sym c.if-is_chosen.ensures) v.if-token-eq0.true)
+      | then-token-eq0 v ↦ omega (arith, ap (λ (t : Token). t.processor) v.token-is, spare_number a.processors picks a.length a.spare ts c.requires l.token-index l.rows l.turn l.places inside l.invariant.1 (sym c.if-is_chosen.ensures) v.if-token-eq0.true)
       | else-token-eq0 v ↦ omega (arith, ap (λ (t : Token). t.processor) v.token-is, v.if-token-eq0.false)
     ]
 
@@ -49,8 +49,8 @@ bounds-places-token g c =
     let l = c.loop-token in
     let inside : l.token-index < length ts = omega arith in
     elim c.if-token-eq0.branch [
-      | then-token-eq0 v ↦ omega (arith, ap (λ (t : Token). t.processor) v.token-is, spare_number a.processors picks a.event.length a.spare ts c.requires l.token-index l.rows l.turn l.places inside l.invariant.1 (sym c.if-is_chosen.ensures) v.if-token-eq0.true)
-      | else-token-eq0 v ↦ omega (arith, ap (λ (t : Token). t.processor) v.token-is, on_board a.processors picks a.event.length a.spare ts c.requires l.token-index l.rows l.turn l.places inside l.invariant.1 (sym c.if-is_chosen.ensures) v.if-token-eq0.false, v.if-token-eq0.false)
+      | then-token-eq0 v ↦ omega (arith, ap (λ (t : Token). t.processor) v.token-is, spare_number a.processors picks a.length a.spare ts c.requires l.token-index l.rows l.turn l.places inside l.invariant.1 (sym c.if-is_chosen.ensures) v.if-token-eq0.true)
+      | else-token-eq0 v ↦ omega (arith, ap (λ (t : Token). t.processor) v.token-is, on_board a.processors picks a.length a.spare ts c.requires l.token-index l.rows l.turn l.places inside l.invariant.1 (sym c.if-is_chosen.ensures) v.if-token-eq0.false, v.if-token-eq0.false)
     ]
 
 pub overflow_sub-token : goal.overflow_sub-token
@@ -61,8 +61,8 @@ overflow_sub-token g c =
     let l = c.loop-token in
     let inside : l.token-index < length ts = omega arith in
     elim c.if-token-eq0.branch [
-      | then-token-eq0 v ↦ omega (arith, ap (λ (t : Token). t.left) v.token-is, reaches a.processors picks a.event.length a.spare ts c.requires l.token-index l.rows l.turn l.places inside l.invariant.1 (sym c.if-is_chosen.ensures))
-      | else-token-eq0 v ↦ omega (arith, ap (λ (t : Token). t.left) v.token-is, reaches a.processors picks a.event.length a.spare ts c.requires l.token-index l.rows l.turn l.places inside l.invariant.1 (sym c.if-is_chosen.ensures))
+      | then-token-eq0 v ↦ omega (arith, ap (λ (t : Token). t.left) v.token-is, reaches a.processors picks a.length a.spare ts c.requires l.token-index l.rows l.turn l.places inside l.invariant.1 (sym c.if-is_chosen.ensures))
+      | else-token-eq0 v ↦ omega (arith, ap (λ (t : Token). t.left) v.token-is, reaches a.processors picks a.length a.spare ts c.requires l.token-index l.rows l.turn l.places inside l.invariant.1 (sym c.if-is_chosen.ensures))
     ]
 
 pub loop-token-preserved : goal.loop-token-preserved
@@ -77,22 +77,22 @@ loop-token-preserved g c =
       | then-is_chosen w ↦ (
         ap length w.places-is ∙ length-set l.places (w.if-token-eq0.token.processor - 1) w.if-token-eq0.token.tag ∙ l.invariant.0,
         elim w.if-token-eq0.branch [
-          | then-token-eq0 v ↦ moving_is a.processors picks a.event.length ts
-              (w.rows-is ∙ ap (λ (t : Token). set l.rows i (record { tag = t.tag; left = t.left - a.event.length; processor = t.processor })) v.token-is)
+          | then-token-eq0 v ↦ moving_is a.processors picks a.length ts
+              (w.rows-is ∙ ap (λ (t : Token). set l.rows i (record { tag = t.tag; left = t.left - a.length; processor = t.processor })) v.token-is)
               (w.turn-is ∙ v.turn-is)
               (w.places-is ∙ ap (λ (t : Token). set l.places (t.processor - 1) t.tag) v.token-is)
-              (move_off a.processors picks a.event.length a.spare ts c.requires i l.rows l.turn l.places inside l.invariant.1 (sym w.if-is_chosen.ensures) v.if-token-eq0.true)
-          | else-token-eq0 v ↦ moving_is a.processors picks a.event.length ts
-              (w.rows-is ∙ ap (λ (t : Token). set l.rows i (record { tag = t.tag; left = t.left - a.event.length; processor = t.processor })) v.token-is)
+              (move_off a.processors picks a.length a.spare ts c.requires i l.rows l.turn l.places inside l.invariant.1 (sym w.if-is_chosen.ensures) v.if-token-eq0.true)
+          | else-token-eq0 v ↦ moving_is a.processors picks a.length ts
+              (w.rows-is ∙ ap (λ (t : Token). set l.rows i (record { tag = t.tag; left = t.left - a.length; processor = t.processor })) v.token-is)
               (w.turn-is ∙ v.turn-is)
               (w.places-is ∙ ap (λ (t : Token). set l.places (t.processor - 1) t.tag) v.token-is)
-              (move_on a.processors picks a.event.length a.spare ts c.requires i l.rows l.turn l.places inside l.invariant.1 (sym w.if-is_chosen.ensures) v.if-token-eq0.false)
+              (move_on a.processors picks a.length a.spare ts c.requires i l.rows l.turn l.places inside l.invariant.1 (sym w.if-is_chosen.ensures) v.if-token-eq0.false)
         ],
       )
       | else-is_chosen w ↦ (
         ap length w.places-is ∙ l.invariant.0,
-        moving_is a.processors picks a.event.length ts w.rows-is w.turn-is w.places-is
-            (move_not a.processors picks a.event.length a.spare ts c.requires i l.rows l.turn l.places inside l.invariant.1 (sym w.if-is_chosen.ensures)),
+        moving_is a.processors picks a.length ts w.rows-is w.turn-is w.places-is
+            (move_not a.processors picks a.length a.spare ts c.requires i l.rows l.turn l.places inside l.invariant.1 (sym w.if-is_chosen.ensures)),
       )
     ]
 
@@ -100,5 +100,5 @@ pub returns : goal.returns
 returns g c =
     let a = c.args.choice.now in
     let l = c.loop-token in
-    let all = moving_all a.processors (picked (g.R.Rule.ranks c.args.rule.now) c.args.span a.last) a.event.length c.args.rows.now l.token-index l.rows l.turn l.places (omega arith) l.invariant.1 in
+    let all = moving_all a.processors (picked (g.R.Rule.ranks c.args.rule.now) c.args.span a.last) a.length c.args.rows.now l.token-index l.rows l.turn l.places (omega arith) l.invariant.1 in
     record { rows = all.0; places = all.1 }
