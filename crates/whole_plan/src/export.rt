@@ -1,4 +1,4 @@
-// The whole plan for callers in C.
+// The whole plan as callers in C see it; the crate whole_plan_c exports it to them.
 ghost use Rattle.std.specs.Prelude.{◌≡◌, ℕ, ◌^◌, ◌<◌, length, take, pos, IfOk};
 ghost use Rattle.whole_plan.specs.Planning.{whole_plan, plan_length, with_plan};
 ghost use Rattle.whole_plan.specs.Serving.{PlanServesEveryPeriod};
@@ -19,8 +19,7 @@ fn signed(answer: Result<usize, Refusal>) -> i64
 }
 
 /// Makes the whole plan of a table for a caller in C: the length of the plan file, or minus the number of the refusal.
-#[unsafe(no_mangle)]
-pub extern "C" fn kiln_whole_plan(table: &[u8], plan: &mut [u8]) -> i64
+pub fn kiln_whole_plan(table: &[u8], plan: &mut [u8]) -> i64
     ensures answer { result ≡ length_or_minus (plan_length (whole_plan table.now (length plan.old))) }
     ensures bytes { plan.new ≡ with_plan (whole_plan table.now (length plan.old)) plan.old }
     ensures serves { (n : ℕ) → result ≡ pos n → PlanServesEveryPeriod table.now (take n plan.new) }
