@@ -163,7 +163,6 @@ pub(crate) fn run_out<R: Rule>(
     span: u64,
     plan: &mut [u8],
 ) -> Finished
-    requires few { length rows.old ≤ 256 }
     requires sound { Sound processors span rows.old }
     requires short { span ≤ 2 ^ 54 }
     requires room { (length rows.old + 1) * record_size processors ≤ length plan.old }
@@ -172,10 +171,10 @@ pub(crate) fn run_out<R: Rule>(
     ensures steps { result.steps ≡ length (steps (length rows.old + 1) processors (R.Rule.ranks rule.now) span rows.old).0 }
     ensures bytes { result.bytes ≡ length (records_bytes processors (steps (length rows.old + 1) processors (R.Rule.ranks rule.now) span rows.old).0) }
 {
-    if !rule.is_by_left() {
-        return run_by_key(rows, rule, processors, span, plan);
-    }
     let mut line = [0; 256];
     let count = rows.len();
+    if count > line.len() || !rule.is_by_left() {
+        return run_by_key(rows, rule, processors, span, plan);
+    }
     run_line(rows, &mut line[0..count], rule, processors, span, plan)
 }

@@ -14,7 +14,6 @@ run_out-finished-requires g c =
     let told = c.if-not-tokens_fit.ensures in
     let there = rows_there (plane p) c.args.tokens.now (p.board.count - 0) (omega arith) (sym told.fits) in
     record {
-      few = omega (arith, there, p.board.counted);
       sound = sound_rows (plane p) c.args.tokens.now (p.board.count - 0) (omega arith) p.board.some p.board.few (told.tags refl) (sym told.fits);
       short = p.short;
       room = omega (arith, ap (λ n. (n + 1) * record_size p.board.processors) there);
