@@ -6,7 +6,7 @@ mkdir -p "$OUT"
 # The archive of the library; it is built only if it is proved.
 archive() {
     if [ -z "${ARCHIVE:-}" ]; then
-        rt staticlib whole_plan >"$OUT/staticlib.log" 2>&1 || { cat "$OUT/staticlib.log"; exit 1; }
+        sh tools/archive >"$OUT/staticlib.log" 2>&1 || { cat "$OUT/staticlib.log"; exit 1; }
         ARCHIVE=$OUT/libwhole_plan.a
         cp target/staticlib/libwhole_plan.a "$ARCHIVE"
     fi

@@ -1,7 +1,7 @@
 /*
  * Plans a table file from C, as kiln_plan does: the plan file goes to standard output, or the line `refused N`.
  *
- *   rt staticlib whole_plan && gcc -O2 -Icrates/whole_plan/include examples/c/plan.c target/staticlib/libwhole_plan.a -o target/plan_c
+ *   sh tools/archive && gcc -O2 -Icrates/whole_plan/include examples/c/plan.c target/staticlib/libwhole_plan.a -o target/plan_c
  *   target/plan_c < examples/three-tasks.ktb | od -A d -t x1
  *
  * With an argument it reads the table from that file.

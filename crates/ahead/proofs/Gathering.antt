@@ -1,7 +1,7 @@
 -- The queue after one task more.
 use Rattle.std.proofs.Common.{◌≡◌, ℕ, zero, suc, ◌+◌, ◌^◌, ◌<◌, ◌≤◌, Bool, true, false, cond, List, [], ◌∷◌, ◌++◌, map, length, get_or, take, Ok, Err, Result, sym, refl, ap, ◌∙◌, subst, arith, MatchResult}
 use Rattle.std.specs.List.Sorted.{IsPermutation}
-use Rattle.std.specs.List.{AllByRecursion as All}
+use Rattle.std.specs.List.{AllByRecursion}
 use Rattle.std.proofs.lemmas.List.{length-map, length-take-le, take_more, map-append}
 use Rattle.std.proofs.lemmas.List.Sorted.{IsPermutation-refl, IsPermutation-cons, IsPermutation-trans, IsPermutation-to_front, length_permutation}
 use Rattle.std.proofs.lemmas.Bool.{and_parts}
@@ -16,7 +16,7 @@ use Rattle.model.specs.State.{unless}
 use Rattle.ahead.specs.declared.release.Due.{Due}
 use Rattle.ahead.specs.Waiting.{compared, by_tick}
 
-pub none_held : (hs : List Due) → length hs ≡ 0 → IsPermutation [] hs × Heaped by_tick hs × All (λ d. d.tick ≤ 2 ^ 33) hs
+pub none_held : (hs : List Due) → length hs ≡ 0 → IsPermutation [] hs × Heaped by_tick hs × AllByRecursion (λ d. d.tick ≤ 2 ^ 33) hs
 none_held [] e = (IsPermutation-refl [], heap_none by_tick [] refl, tt)
 none_held (h ∷ hs) e = absurd (omega arith)
 

@@ -2,7 +2,7 @@
 use Rattle.std.proofs.Common.{◌≡◌, ℕ, ◌+◌, ◌<◌, ◌≤◌, Bool, true, false, not, ◌&&◌, ◌||◌, eqb, ◌⊎◌, List, [], ◌∷◌, map, Some, None, count_by, Option, sym, refl, ap, ◌∙◌, subst, inl, inr, ⊎_elim, true≢false, arith, ltb-true, eq-eqb, eqb-true}
 use borrow.Author.Tests.{eqb-false}
 use Rattle.std.specs.List.Sorted.{IsPermutation}
-use Rattle.std.specs.List.{AllByRecursion as All}
+use Rattle.std.specs.List.{AllByRecursion}
 use Rattle.std.proofs.ByRecursion.{All-map, All-weaker, all_shuffled}
 use Rattle.std.proofs.lemmas.List.Sorted.{IsPermutation-sym, sum_by-IsPermutation}
 use Rattle.std.proofs.lemmas.Bool.{and_parts, and_from}
@@ -20,11 +20,11 @@ use Rattle.ahead.proofs.Sooner.{not_sooner, not_sooner_later}
 use Rattle.ahead.proofs.Firsts.{same_task, tag_once, first_after, same_tick, later, first_later, first_other}
 
 module _ {X : Type 0} where
-  both : (P Q R : X → Type 0) → ((x : X) → P x → Q x → R x) → (xs : List X) → All P xs → All Q xs → All R xs
+  both : (P Q R : X → Type 0) → ((x : X) → P x → Q x → R x) → (xs : List X) → AllByRecursion P xs → AllByRecursion Q xs → AllByRecursion R xs
   both P Q R f [] p q = tt
   both P Q R f (x ∷ xs) p q = (f x p.0 q.0, both P Q R f xs p.1 q.1)
 
-  none_pass : (p : X → Bool) (xs : List X) → count_by p xs ≤ 0 → All (λ x. p x ≡ false) xs
+  none_pass : (p : X → Bool) (xs : List X) → count_by p xs ≤ 0 → AllByRecursion (λ x. p x ≡ false) xs
   none_pass p [] h = tt
   none_pass p (x ∷ xs) h = (by (p x) refl, none_pass p xs (omega (arith, count_cons p x xs)))
     where
@@ -32,7 +32,7 @@ module _ {X : Type 0} where
       by true e = absurd (omega (arith, count_cons p x xs, ap bit e))
       by false e = refl
 
-  map_at : {Y : Type 0} (P : Y → Type 0) (f : X → Y) (xs : List X) (x : X) → All P (map f xs) → In x xs → P (f x)
+  map_at : {Y : Type 0} (P : Y → Type 0) (f : X → Y) (xs : List X) (x : X) → AllByRecursion P (map f xs) → In x xs → P (f x)
   map_at P f [] x a i = elim i [ ]
   map_at P f (y ∷ xs) x a here = a.0
   map_at P f (y ∷ xs) x a (there i) = map_at P f xs x a.1 i
@@ -66,7 +66,7 @@ was_false true e = sym e
 was_false false e = refl
 
 module _ (ts : List Task) (table : Table ts) (tick : ℕ) (p : Option Release) (hs : List Due) (was : Waiting ts tick p hs) (x : Due) (on_top : First by_tick x hs) (t₀ : Task) (in₀ : In t₀ ts) (first₀ : FirstDue tick p t₀ x) where
-  ahead_of : All (λ d. sooner (release d) (release x) ≡ false) hs
+  ahead_of : AllByRecursion (λ d. sooner (release d) (release x) ≡ false) hs
   ahead_of = All-weaker (λ d. before by_tick d x ≡ false) (λ d. sooner (release d) (release x) ≡ false) (λ d. not_sooner d x) hs on_top
 
   -- the one on top is the next
@@ -120,10 +120,10 @@ module _ (ts : List Task) (table : Table ts) (tick : ℕ) (p : Option Release) (
     like_itself : like x ≡ true
     like_itself = and_from _ _ (eq-eqb x.tag x.tag refl) (eq-eqb x.tick x.tick refl)
 
-    none_like : All (λ d. like d ≡ false) hs'
+    none_like : AllByRecursion (λ d. like d ≡ false) hs'
     none_like = none_pass like hs' (omega (arith, counted like, ap bit like_itself, ap bit unlike_later, was.once x.tag, count_le like (λ d. eqb d.tag x.tag) hs (λ d _ h. (and_parts _ _ h).0)))
 
-    all_sorted : All (λ d. (like d ≡ true) ⊎ Stays d) (x ∷ hs')
+    all_sorted : AllByRecursion (λ d. (like d ≡ true) ⊎ Stays d) (x ∷ hs')
     all_sorted = all_shuffled _ _ (x ∷ hs') moved (inr (t₀, in₀, first_later tick p t₀ x pos first₀), both _ _ _ sorted hs was.each ahead_of)
 
     pub waiting_more : Waiting ts tick (Some (release x)) hs'
@@ -141,10 +141,10 @@ module _ (ts : List Task) (table : Table ts) (tick : ℕ) (p : Option Release) (
         or_one true b h = refl
         or_one false b h = h
 
-        some_more : (t : Task) → In t ts → (P : Due → Bool) → All (λ d. P d ≡ true) hs' → (d : Due) × FirstDue tick (Some (release x)) t d × (P d ≡ true)
+        some_more : (t : Task) → In t ts → (P : Due → Bool) → AllByRecursion (λ d. P d ≡ true) hs' → (d : Due) × FirstDue tick (Some (release x)) t d × (P d ≡ true)
         some_more t i P a = by (eqb d.tag x.tag) refl
           where
-            wide : All (λ d. (like d || P d) ≡ true) (later x ∷ hs)
+            wide : AllByRecursion (λ d. (like d || P d) ≡ true) (later x ∷ hs)
             wide = all_shuffled _ (x ∷ hs') _ (IsPermutation-sym _ _ moved) (ap (λ b. b || P x) like_itself, All-weaker (λ d. P d ≡ true) (λ d. (like d || P d) ≡ true) (λ d. or_one (like d) (P d)) hs' a)
 
             found : (d : Due) × FirstDue tick p t d × (((like d || P d) && not (sooner (release d) (release x))) ≡ true)

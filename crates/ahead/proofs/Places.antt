@@ -1,7 +1,7 @@
 -- The list and the queue after one place more.
 use Rattle.std.proofs.Common.{◌≡◌, ℕ, zero, suc, ◌+◌, ◌*◌, ◌^◌, ◌<◌, ◌≤◌, List, [], ◌∷◌, length, get_or, set, Some, None, Option, sym, refl, ap, ◌∙◌, subst, ⊎_elim, add-one, arith, MatchOption}
 use Rattle.std.specs.List.Sorted.{IsPermutation}
-use Rattle.std.specs.List.{AllByRecursion as All}
+use Rattle.std.specs.List.{AllByRecursion}
 use Rattle.std.proofs.Permutation.{which}
 use Rattle.std.proofs.ByRecursion.{All-weaker, all_shuffled}
 use Rattle.std.proofs.lemmas.List.{get_or-set_same, get_or-set_other}
@@ -21,7 +21,7 @@ pub at_some : {X : Type 0} (r : Option X) (x : X) (A : Type 0) (B : X → Type 0
 at_some None x A B e c = absurd (let z : ◌≡◌ {A = ℕ} 0 1 = cc in omega arith)
 at_some (Some y) x A B e c = let same : y ≡ x = cc in subst B same c
 
-top_of : (P : Due → Type 0) (hs : List Due) (x : Due) → first_of hs ≡ Some x → All P hs → P x
+top_of : (P : Due → Type 0) (hs : List Due) (x : Due) → first_of hs ≡ Some x → AllByRecursion P hs → P x
 top_of P [] x e a = absurd (let z : ◌≡◌ {A = ℕ} 0 1 = cc in omega arith)
 top_of P (h ∷ hs) x e a = let same : h ≡ x = cc in subst P same a.0
 
@@ -57,7 +57,7 @@ module _ (ts : List Task) (table : Table ts) (tick : ℕ) (ls : List Release) (i
 
 -- ticks stay near
 pub stays_near : (i : ℕ) (hs hs' : List Due) (x : Due) → x.period < 2 ^ 32 → first_of hs ≡ Some x → IsPermutation (later x ∷ hs) (x ∷ hs')
-    → All (λ d. d.tick ≤ 2 ^ 33 + i * 2 ^ 32) hs → All (λ d. d.tick ≤ 2 ^ 33 + (i + 1) * 2 ^ 32) hs'
+    → AllByRecursion (λ d. d.tick ≤ 2 ^ 33 + i * 2 ^ 32) hs → AllByRecursion (λ d. d.tick ≤ 2 ^ 33 + (i + 1) * 2 ^ 32) hs'
 stays_near i hs hs' x short is-top moved near =
     let here = top_of (λ d. d.tick ≤ 2 ^ 33 + i * 2 ^ 32) hs x is-top near in
     (all_shuffled (λ d. d.tick ≤ 2 ^ 33 + (i + 1) * 2 ^ 32) (later x ∷ hs) (x ∷ hs') moved (omega arith, All-weaker (λ d. d.tick ≤ 2 ^ 33 + i * 2 ^ 32) (λ d. d.tick ≤ 2 ^ 33 + (i + 1) * 2 ^ 32) (λ d h. omega arith) hs near)).1

@@ -3,7 +3,7 @@ use Rattle.std.specs.Prelude.{◌≡◌, ℕ, ◌+◌, ◌*◌, ◌<◌, ◌≤�
 use Rattle.std.specs.declared.cmp.Ordering.{Ordering}
 use Rattle.std.specs.Cmp.{IsTotalOrder, nat_cmp_total, on_total, then_total}
 use Rattle.std.specs.Ordering.{nat_cmp, ordering_then}
-use Rattle.std.specs.List.{AllByRecursion as All}
+use Rattle.std.specs.List.{AllByRecursion}
 use Rattle.rows.specs.declared.memory.Task.{Task}
 use Rattle.rows.specs.Tests.{rising}
 use Rattle.model.specs.Members.{In}
@@ -42,10 +42,10 @@ pub record FirstDue (tick : ℕ) (p : Option Release) (t : Task) (d : Due) : Typ
 -- tasks of different tags, each with a period
 pub record Table (ts : List Task) : Type 0 where
   pub apart : rising (tags ts) ≡ true
-  pub periods : All (λ t. 0 < t.period) ts
+  pub periods : AllByRecursion (λ t. 0 < t.period) ts
 
 -- each that waits is the first one of a task, each task has one that waits, and no tag waits twice
 pub record Waiting (ts : List Task) (tick : ℕ) (p : Option Release) (hs : List Due) : Type 0 where
-  pub each : All (λ d. (t : Task) × In t ts × FirstDue tick p t d) hs
-  pub some : (t : Task) → In t ts → (P : Due → Bool) → All (λ d. P d ≡ true) hs → (d : Due) × FirstDue tick p t d × (P d ≡ true)
+  pub each : AllByRecursion (λ d. (t : Task) × In t ts × FirstDue tick p t d) hs
+  pub some : (t : Task) → In t ts → (P : Due → Bool) → AllByRecursion (λ d. P d ≡ true) hs → (d : Due) × FirstDue tick p t d × (P d ≡ true)
   pub once : (g : ℕ) → count_by (λ d. nat_eq d.tag g) hs ≤ 1

@@ -5,7 +5,7 @@
 
 ghost use Rattle.std.specs.Prelude.{◌≡◌, ℕ, ◌^◌, ◌<◌, ◌≤◌, true, List, map, length, None, MatchResult};
 ghost use Rattle.std.specs.List.Sorted.{IsPermutation};
-ghost use Rattle.std.specs.List.{AllByRecursion as All};
+ghost use Rattle.std.specs.List.{AllByRecursion};
 ghost use Rattle.rows.specs.Tests.{all};
 ghost use Rattle.rows.specs.declared.memory.Task.{Task as Row};
 ghost use Rattle.queue.specs.Held.{held};
@@ -70,7 +70,7 @@ fn gather(queue: &mut Queue<'_, Due>, rows: &[Task], tick: u32)
     requires room { length rows.now ≤ length queue.old.memory.now }
     ensures items { IsPermutation (map (first_due tick) rows.now) (held queue.new) }
     ensures order { Heaped by_tick (held queue.new) }
-    ensures near { All (λ d. d.tick ≤ 2 ^ 33) (held queue.new) }
+    ensures near { AllByRecursion (λ d. d.tick ≤ 2 ^ 33) (held queue.new) }
 {
     for task in rows {
         let _ = queue.insert(due(task, tick));
@@ -94,7 +94,7 @@ fn due(task: &Task, tick: u32) -> Due
 // Lists the releases that wait, each task's next one coming for the one listed.
 fn fill(queue: &mut Queue<'_, Due>, places: &mut [Release])
     requires some { 0 < length (held queue.old) }
-    requires near { All (λ d. d.tick ≤ 2 ^ 33) (held queue.old) }
+    requires near { AllByRecursion (λ d. d.tick ≤ 2 ^ 33) (held queue.old) }
     requires few { length places.old ≤ 65536 }
     ensures { (ts : List Row) (tick : ℕ) → Table ts → Heaped by_tick (held queue.old) → Waiting ts tick None (held queue.old) → Ahead ts tick places.new }
 {

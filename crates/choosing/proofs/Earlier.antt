@@ -2,7 +2,7 @@
 use Rattle.std.proofs.Common.{◌≡◌, ℕ, ◌<◌, Bool, true, false, cond, ◌&&◌, ◌||◌, eqb, ltb, List, [], ◌∷◌, length, get_or, Some, Ordering, Less, Equal, Greater, sym, refl, ap, ◌∙◌, true≢false, arith}
 use Rattle.std.specs.declared.cmp.Reverse.{Reverse}
 use Rattle.std.specs.Ordering.{is_lt, ordering_then}
-use Rattle.std.specs.List.{AllByRecursion as All}
+use Rattle.std.specs.List.{AllByRecursion}
 use Rattle.std.proofs.HeapSift.{ranks}
 use Rattle.std.proofs.lemmas.List.Sums.{count_by-le-length}
 use Rattle.queue.specs.Held.{first_of}
@@ -53,7 +53,7 @@ over w e x p q = by (earlier w x) refl
 
 -- none of hs stands after w
 abbrev pub Closes : Entry → List (Reverse Entry) → Type 0
-Closes w hs = All (λ h. earlier w h.0 ≡ false) hs
+Closes w hs = AllByRecursion (λ h. earlier w h.0 ≡ false) hs
 
 top_at : (hs : List (Reverse Entry)) (w : Reverse Entry) → first_of hs ≡ Some w → w ≡ get_or hs 0 w
 top_at [] w e = absurd (let z : ◌≡◌ {A = ℕ} 0 1 = cc in omega arith)

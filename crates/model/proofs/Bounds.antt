@@ -1,6 +1,6 @@
 -- Running chosen tokens keeps the bounds of their plane. Nothing here knows in which order they were chosen.
 use Rattle.std.proofs.Common.{◌≡◌, ℕ, ◌+◌, ◌-◌, ◌*◌, ◌^◌, ◌<◌, ◌≤◌, Bool, true, false, cond, ◌&&◌, ltb, ◌⊎◌, List, map, sum_by, count_by, ap, inl, inr, ⊎_elim, arith}
-use Rattle.std.specs.List.{AllByRecursion as All}
+use Rattle.std.specs.List.{AllByRecursion}
 use Rattle.std.proofs.lemmas.Bool.{and_parts, and_from, and_left, and_right, ltb-true, lt-ltb, le-ltb, cases_lt, cases_Bool, both_ways}
 use Rattle.rows.specs.declared.memory.Token.{Token}
 use Rattle.rows.specs.Tests.{distinct}
@@ -54,7 +54,7 @@ module _ (m span : ℕ) (ts : List Token) (ok : Sound m span ts) (picks : Token 
       together (λ x. x.left) picks d m (span - d) ts (λ x i. omega (arith, ok.low x i)) (rw e ok.sum) to.picked choice.most choice.full
 
   -- the bounds after the run
-  pub keeps : All (λ x. x.left ≤ span - d) (run m picks span ts d).tokens × (sum_by (λ x. x.left) (run m picks span ts d).tokens ≤ m * (span - d))
+  pub keeps : AllByRecursion (λ x. x.left ≤ span - d) (run m picks span ts d).tokens × (sum_by (λ x. x.left) (run m picks span ts d).tokens ≤ m * (span - d))
   keeps = (
     all_map (λ x. x.left ≤ span - d) (moved m picks ts d) ts keeps_each,
     omega (arith, sumBy_map (λ x. x.left) (moved m picks ts d) ts, keeps_sum),

@@ -1,7 +1,7 @@
 -- The course of a plane: what is true after each of its steps.
 use Rattle.std.proofs.Common.{◌≡◌, ℕ, zero, suc, ◌+◌, ◌-◌, ◌*◌, ◌%◌, ◌^◌, ◌<◌, ◌≤◌, Bool, true, false, cond, eqb, List, [], ◌∷◌, ◌++◌, map, reverse, length, sum_by, count_by, filter, sym, refl, ap, ◌∙◌, subst, arith}
 use mathlib.Core.List.{reverse_aux-eq}
-use Rattle.std.specs.List.{AllByRecursion as All}
+use Rattle.std.specs.List.{AllByRecursion}
 use Rattle.std.proofs.lemmas.List.{length-map}
 use Rattle.std.proofs.lemmas.List.Sums.{sum_by-cons}
 use Rattle.rows.specs.declared.memory.Task.{Task}
@@ -65,7 +65,7 @@ pub record Running (p : Open) (ts : List Task) (ks : List Token) (h : List Event
   pub fallen : p.span + total (since_start h) ≡ (p.end - p.board.tick) * p.board.scale
   pub paid : Each (Paid p.board.scale (p.end - p.board.tick) (since_start h)) ts ks
   pub clock : p.board.tick * p.board.scale + total (since_start h) ≡ total (ran_in h)
-  pub good : All (Good p.board.processors) (ran_in h)
+  pub good : AllByRecursion (Good p.board.processors) (ran_in h)
 
 -- one more segment
 pub total_cons : (s : Segment) (ss : List Segment) → total (s ∷ ss) ≡ s.units + total ss

@@ -1,6 +1,6 @@
 -- The distance to the next event, for any choice.
 use Rattle.std.proofs.Common.{◌≡◌, ℕ, ◌-◌, ◌<◌, ◌≤◌, min, Bool, true, false, cond, ◌⊎◌, List, [], ◌∷◌, map, sum_by, refl, ap, inl, inr, arith}
-use Rattle.std.specs.List.{AllByRecursion as All}
+use Rattle.std.specs.List.{AllByRecursion}
 use Rattle.std.proofs.lemmas.List.Sums.{sum_by-cons}
 use Rattle.std.proofs.lemmas.Bool.{cases_lt}
 use Rattle.rows.specs.declared.memory.Token.{Token}
@@ -12,7 +12,7 @@ pub sumBy_map : {X Y : Type 0} (f : Y → ℕ) (g : X → Y) (xs : List X) → s
 sumBy_map f g [] = refl
 sumBy_map f g (x ∷ xs) = omega (arith, sum_by-cons f (g x) (map g xs), sum_by-cons (λ x. f (g x)) x xs, sumBy_map f g xs)
 
-pub all_map : {X Y : Type 0} (P : Y → Type 0) (g : X → Y) (xs : List X) → ((x : X) → In x xs → P (g x)) → All P (map g xs)
+pub all_map : {X Y : Type 0} (P : Y → Type 0) (g : X → Y) (xs : List X) → ((x : X) → In x xs → P (g x)) → AllByRecursion P (map g xs)
 all_map P g [] h = tt
 all_map P g (x ∷ xs) h = (h x here, all_map P g xs (λ y i. h y (there i)))
 

@@ -1,6 +1,6 @@
 -- A finish over any memory that fits: the plane is over after it, and its records read back as the segments of its steps.
 use Rattle.std.proofs.Common.{◌≡◌, ℕ, zero, suc, ◌+◌, ◌^◌, ◌<◌, ◌≤◌, Bool, true, false, cond, eqb, List, [], ◌∷◌, ◌++◌, length, take, drop, sym, refl, ap, ◌∙◌, subst, ⊎_elim, arith, take_at, drop_at}
-use Rattle.std.specs.List.{AllByRecursion as All}
+use Rattle.std.specs.List.{AllByRecursion}
 use Rattle.std.proofs.ByRecursion.{All-weaker}
 use Rattle.std.proofs.lemmas.List.{length-map}
 use Rattle.std.proofs.lemmas.List.Sums.{count_by-le-length}
@@ -77,16 +77,16 @@ step_going m key law n r ks k pos g =
 
 -- many steps keep it, and each segment is good
 steps_going : (fuel m : ℕ) (key : Key) → Lawful key → (n r : ℕ) (ks : List Token) (k : ℕ) → Going m n r ks k
-    → Going m n (steps fuel m key r ks).1 (steps fuel m key r ks).2 (length (steps fuel m key r ks).0 + k) × All (Good m) (steps fuel m key r ks).0
+    → Going m n (steps fuel m key r ks).1 (steps fuel m key r ks).2 (length (steps fuel m key r ks).0 + k) × AllByRecursion (Good m) (steps fuel m key r ks).0
 steps_going zero m key law n r ks k g = (subst (Going m n r ks) (omega arith) g, tt)
 steps_going (suc fuel) m key law n r ks k g =
     go (eqb r 0) refl (steps fuel m key _ _) (λ pos. steps_going fuel m key law n _ _ (suc k) (step_going m key law n r ks k pos g))
   where
     go : (b : Bool) → eqb r 0 ≡ b → (rest : List Segment × ℕ × List Token)
-        → (0 < r → Going m n rest.1 rest.2 (length rest.0 + suc k) × All (Good m) rest.0)
+        → (0 < r → Going m n rest.1 rest.2 (length rest.0 + suc k) × AllByRecursion (Good m) rest.0)
         → Going m n (turn b r ks (Steps.step m key r ks).segment rest).1 (turn b r ks (Steps.step m key r ks).segment rest).2
         (length (turn b r ks (Steps.step m key r ks).segment rest).0 + k)
-        × All (Good m) (turn b r ks (Steps.step m key r ks).segment rest).0
+        × AllByRecursion (Good m) (turn b r ks (Steps.step m key r ks).segment rest).0
     go true e rest again = (subst (Going m n r ks) (omega arith) g, tt)
     go false e rest again =
         let pos = positive r e in
@@ -107,10 +107,10 @@ module _ (m n r : ℕ) (ks : List Token) (long : length ks ≡ n) (ok : Sound m 
     slow = record { most = omega arith; going = λ pos. omega (arith, count_by-le-length (inner r) ks, long) };
   }
 
-  last : Going m n done.1 done.2 (length done.0 + 0) × All (Good m) done.0
+  last : Going m n done.1 done.2 (length done.0 + 0) × AllByRecursion (Good m) done.0
   last = steps_going (n + 1) m key law n r ks 0 first
 
-  pub all_writable : All (Writable m) done.0
+  pub all_writable : AllByRecursion (Writable m) done.0
   all_writable = All-weaker (Good m) (Writable m) (λ s g. g.fits) done.0 last.1
 
   -- one step more than there are tasks is enough
@@ -120,7 +120,7 @@ module _ (m n r : ℕ) (ks : List Token) (long : length ks ≡ n) (ok : Sound m 
       (λ z. omega arith)
       (cases_lt 0 done.1)
 
-  tokens_out : All (λ x. x.left ≡ 0) done.2
+  tokens_out : AllByRecursion (λ x. x.left ≡ 0) done.2
   tokens_out = all_in (λ x. x.left ≡ 0) done.2 (λ x i. omega (arith, last.0.sound.low x i, span_out))
 
   all_out : StepsOut m key r ks done.0 done.2
@@ -128,7 +128,7 @@ module _ (m n r : ℕ) (ks : List Token) (long : length ks ≡ n) (ok : Sound m 
 
 -- the records of a finish, read from the buffer
 pub finish_back : (p : Open) (memory : List Token) (key : Key) (buffer : List ℕ)
-    → let n = p.board.count in All (Writable p.board.processors) (steps (n + 1) p.board.processors key p.span (take n memory)).0
+    → let n = p.board.count in AllByRecursion (Writable p.board.processors) (steps (n + 1) p.board.processors key p.span (take n memory)).0
     → segments_of (finish_of p memory key buffer) ≡ (steps (n + 1) p.board.processors key p.span (take n memory)).0
 finish_back p memory key buffer w = read_back p.board.processors _ _ w
 
@@ -144,11 +144,11 @@ finish_over p memory widths key law buffer r e =
     let front : take n (d.2 ++ drop n memory) ≡ d.2 = take_at d.2 (drop n memory) n there in
     let back = finish_back p memory key buffer (all_writable m n p.span ks s.0 s.1 widths.short key law) in
     let P : AfterFinish → Type 0 = λ r.
-    (r.0.0.span ≡ 0) × All (λ x. x.left ≡ 0) (take n r.0.1) × StepsOut m key p.span ks (segments_of r) (take n r.0.1)
+    (r.0.0.span ≡ 0) × AllByRecursion (λ x. x.left ≡ 0) (take n r.0.1) × StepsOut m key p.span ks (segments_of r) (take n r.0.1)
     × (drop r.1.1 r.0.2 ≡ drop r.1.1 buffer) in
     subst P k.is (
       span_out m n p.span ks s.0 s.1 widths.short key law,
-      subst (All (λ x. x.left ≡ 0)) (sym front) (tokens_out m n p.span ks s.0 s.1 widths.short key law),
+      subst (AllByRecursion (λ x. x.left ≡ 0)) (sym front) (tokens_out m n p.span ks s.0 s.1 widths.short key law),
       subst (λ us. StepsOut m key p.span ks (segments_of (finish_of p memory key buffer)) us) (sym front)
           (subst (λ ss. StepsOut m key p.span ks ss d.2) (sym back) (all_out m n p.span ks s.0 s.1 widths.short key law)),
       drop_at (records_bytes m d.0) _ (length (records_bytes m d.0)) refl,

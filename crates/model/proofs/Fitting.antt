@@ -1,6 +1,6 @@
 -- A step over any memory that fits its plane leaves memory that fits, and a segment that a plan file can hold.
 use Rattle.std.proofs.Common.{◌≡◌, ◌^◌, ◌<◌, true, List, ◌++◌, length, take, drop, sym, ◌∙◌, subst, arith, take_at}
-use Rattle.std.specs.List.{AllByRecursion as All}
+use Rattle.std.specs.List.{AllByRecursion}
 use Rattle.std.proofs.lemmas.List.{length-map}
 use Rattle.rows.specs.declared.memory.Token.{Token}
 use Rattle.rules.specs.Keys.{Key, Lawful}
@@ -36,7 +36,7 @@ step_fits p memory widths key law some fits =
         some = widths.some;
         few = widths.few;
         short = omega (arith, widths.short);
-        tags = subst (All (λ x. x.tag < 2 ^ 16)) (sym front) (all_in (λ x. x.tag < 2 ^ 16) us ok.short_tags);
+        tags = subst (AllByRecursion (λ x. x.tag < 2 ^ 16)) (sym front) (all_in (λ x. x.tag < 2 ^ 16) us ok.short_tags);
       },
       step_good m key law p.span ts s.1 some widths.short,
     )

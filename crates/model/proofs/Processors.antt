@@ -1,6 +1,6 @@
 -- Each chosen token has a processor of its own.
 use Rattle.std.proofs.Common.{◌≡◌, ℕ, zero, suc, ◌+◌, ◌<◌, ◌≤◌, Bool, true, false, cond, not, ◌&&◌, ◌||◌, eqb, ltb, leb, ◌⊎◌, List, [], ◌∷◌, map, length, get_or, count_by, filter, sym, refl, ap, ◌∙◌, subst, inl, inr, ⊎_elim, arith}
-use Rattle.std.specs.List.{range_with_len, AllByRecursion as All}
+use Rattle.std.specs.List.{range_with_len, AllByRecursion}
 use Rattle.std.proofs.lemmas.List.FromFn.{length-range_with_len}
 use Rattle.std.proofs.ByRecursion.{All-get_or, all_kept_by, kept_by_passes}
 use Rattle.std.proofs.lemmas.List.Filters.{length-filter_both}
@@ -38,11 +38,11 @@ used m (q ∷ ps) =
       count_or (λ p. has p (q ∷ ps)) (λ p. eqb p q) (λ p. has p ps) (range_with_len 1 m) (λ p i h. or_cases (eqb p q) (has p ps) h),
     )
 
-pub within : (a n : ℕ) → All (λ p. (a ≤ p) × (p < a + n)) (range_with_len a n)
+pub within : (a n : ℕ) → AllByRecursion (λ p. (a ≤ p) × (p < a + n)) (range_with_len a n)
 within a zero = tt
 within a (suc n) = ((omega arith, omega arith), up (range_with_len (a + 1) n) (within (a + 1) n))
   where
-    up : (ps : List ℕ) → All (λ p. (a + 1 ≤ p) × (p < a + 1 + n)) ps → All (λ p. (a ≤ p) × (p < a + suc n)) ps
+    up : (ps : List ℕ) → AllByRecursion (λ p. (a + 1 ≤ p) × (p < a + 1 + n)) ps → AllByRecursion (λ p. (a ≤ p) × (p < a + suc n)) ps
     up [] h = tt
     up (p ∷ ps) h = ((omega (arith, h.0), omega (arith, h.0)), up ps h.1)
 
@@ -53,7 +53,7 @@ rising t a (suc n) i j l k = go (t a) i j (filter t (range_with_len (a + 1) n)) 
   where
     go : (b : Bool) (i j : ℕ) (rest : List ℕ)
         → ((i j : ℕ) → i < j → j < length rest → get_or rest i 0 < get_or rest j 0)
-        → All (λ p. (a + 1 ≤ p) × (p < a + 1 + n)) rest
+        → AllByRecursion (λ p. (a + 1 ≤ p) × (p < a + 1 + n)) rest
         → i < j → j < length (cond b (a ∷ rest) rest) → get_or (cond b (a ∷ rest) rest) i 0 < get_or (cond b (a ∷ rest) rest) j 0
     go false i j rest again low l k = again i j l k
     go true zero zero rest again low l k = absurd (omega arith)

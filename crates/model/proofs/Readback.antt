@@ -1,6 +1,6 @@
 -- Records in a buffer read back as the segments that they were made from.
 use Rattle.std.proofs.Common.{◌≡◌, ℕ, suc, ◌≤◌, List, [], ◌∷◌, ◌++◌, length, take, drop, sym, refl, ap, ◌∙◌, append_assoc, append-nil, arith, take_at, drop_at}
-use Rattle.std.specs.List.{AllByRecursion as All}
+use Rattle.std.specs.List.{AllByRecursion}
 use Rattle.std.proofs.lemmas.List.{length-take-le}
 use Rattle.std.proofs.lemmas.Bool.Decides.{nat_tests}
 use Rattle.plan_file.specs.Records.{Segment, record_size, record_bytes, records_bytes, segments_at}
@@ -14,7 +14,7 @@ length_record m s w =
     let a : m ≤ 16 = grind (arith, nat_tests) in
     omega (arith, length-take-le m s.row (omega (arith, w.places)), length_tag_bytes (take m s.row))
 
-segments_back : (m : ℕ) (ss : List Segment) (rest : List ℕ) → All (Writable m) ss → segments_at m (length ss) (records_bytes m ss ++ rest) ≡ ss
+segments_back : (m : ℕ) (ss : List Segment) (rest : List ℕ) → AllByRecursion (Writable m) ss → segments_at m (length ss) (records_bytes m ss ++ rest) ≡ ss
 segments_back m [] rest h = refl
 segments_back m (s ∷ ss) rest h =
     let more = records_bytes m ss ++ rest in
@@ -25,7 +25,7 @@ segments_back m (s ∷ ss) rest h =
     ∙ ap (λ l. s ∷ l) (segments_back m ss rest h.1)
 
 -- from the front of a buffer that they were written into
-pub read_back : (m : ℕ) (ss : List Segment) (buffer : List ℕ) → All (Writable m) ss
+pub read_back : (m : ℕ) (ss : List Segment) (buffer : List ℕ) → AllByRecursion (Writable m) ss
     → segments_at m (length ss) (take (length (records_bytes m ss)) (records_bytes m ss ++ buffer)) ≡ ss
 read_back m ss buffer h =
     ap (segments_at m (length ss)) (take_at (records_bytes m ss) buffer (length (records_bytes m ss)) refl ∙ sym (append-nil (records_bytes m ss)))

@@ -1,7 +1,7 @@
 -- What is true of a board at rest, through admissions and withdrawals, into a plane and out of it.
 use Rattle.std.proofs.Common.{◌≡◌, ℕ, ◌+◌, ◌-◌, ◌*◌, ◌/◌, ◌%◌, ◌^◌, ◌<◌, ◌≤◌, true, false, eqb, List, [], ◌∷◌, map, length, Some, sum_by, sym, refl, ap, ◌∙◌, subst, ⊎_elim, mul-le-mul_right, mul-le-mul_left, arith}
 use native.Mathlib.Nat.{div-le_of_le-mul}
-use Rattle.std.specs.List.{AllByRecursion as All}
+use Rattle.std.specs.List.{AllByRecursion}
 use Rattle.std.proofs.lemmas.List.{length-map}
 use Rattle.std.proofs.lemmas.List.Sums.{sum_by-cons, count_by-le-length}
 use Rattle.std.proofs.lemmas.Bool.{eq-eqb, ne_eqb, cond-true, cond-false}
@@ -29,7 +29,7 @@ pub record Resting (b : Rest) (ts : List Task) (h : List Event) : Type 0 where
   pub tasks : (t : Task) → In t ts → TaskOk b.scale b.tick t
   pub served : (t : Task) → In t ts → run_by t.tag (since_admission t.tag h) ≡ (b.tick - t.release) * weight b.scale t
   pub clock : b.tick * b.scale ≡ total (ran_in h)
-  pub good : All (Good b.processors) (ran_in h)
+  pub good : AllByRecursion (Good b.processors) (ran_in h)
 
 -- the segments of one tag when another is admitted, or itself
 other_admitted : (tag u : ℕ) (h : List Event) → (tag ≡ u → ⊥) → since_admission u (admission tag ∷ h) ≡ since_admission u h

@@ -1,6 +1,6 @@
 -- The segment of a step: it has a length and fits a record.
 use Rattle.std.proofs.Common.{◌≡◌, ℕ, zero, suc, ◌+◌, ◌-◌, ◌^◌, ◌<◌, ◌≤◌, Bool, true, false, cond, not, ◌&&◌, eqb, leb, ◌⊎◌, List, [], ◌∷◌, map, drop, refl, ap, ◌∙◌, inl, inr, ⊎_elim, arith}
-use Rattle.std.specs.List.{range_with_len, AllByRecursion as All}
+use Rattle.std.specs.List.{range_with_len, AllByRecursion}
 use Rattle.std.proofs.lemmas.List.FromFn.{length-map-range_with_len}
 use Rattle.std.proofs.lemmas.Bool.{and_from, or_cases, or_left, or_right, eq-eqb, ne_eqb, le-leb, cond_both, cond-false, cases_Bool, both_ways, not_from_false}
 use Rattle.rows.specs.declared.memory.Token.{Token}
@@ -83,13 +83,13 @@ no_runner [] p h = refl
 no_runner (x ∷ xs) p h = cond-false _ _ _ (ne_eqb x.processor p (λ e. omega (arith, h x here))) ∙ no_runner xs p (λ u i. h u (there i))
 
 -- what holds of each holds at every index, past the end too
-below_all : (b : ℕ) (xs : List ℕ) → 0 < b → All (λ t. t < b) xs → Below b xs
+below_all : (b : ℕ) (xs : List ℕ) → 0 < b → AllByRecursion (λ t. t < b) xs → Below b xs
 below_all b [] pos h i = pos
 below_all b (x ∷ xs) pos h zero = h.0
 below_all b (x ∷ xs) pos h (suc i) = below_all b xs pos h.1 i
 
 module _ (m : ℕ) (us : List Token) (few : m ≤ 16) (on : (u : Token) → In u us → u.processor ≤ m) (tags : (u : Token) → In u us → u.tag < 2 ^ 16) where
-  short_row : (a n : ℕ) → All (λ t. t < 2 ^ 16) (map (runner us) (range_with_len a n))
+  short_row : (a n : ℕ) → AllByRecursion (λ t. t < 2 ^ 16) (map (runner us) (range_with_len a n))
   short_row a zero = tt
   short_row a (suc n) = (short_runner us a tags, short_row (a + 1) n)
 

@@ -1,7 +1,7 @@
 -- What holds after every run.
 use Rattle.std.proofs.Common.{◌≡◌, ℕ, ◌-◌, ◌*◌, ◌/◌, ◌%◌, ◌^◌, ◌<◌, ◌≤◌, List, [], ◌∷◌, take, Ok, refl, ap, ◌∙◌, subst, ⊎_elim, arith}
 use native.Mathlib.Nat.{dvd_of_mod-eq-zero, mul-div_cancel', mul-div_assoc}
-use Rattle.std.specs.List.{AllByRecursion as All}
+use Rattle.std.specs.List.{AllByRecursion}
 use Rattle.std.proofs.ByRecursion.{All-weaker}
 use Rattle.std.proofs.lemmas.Bool.{cases_lt}
 use Rattle.rows.specs.declared.memory.Task.{Task}
@@ -22,12 +22,12 @@ use Rattle.model.proofs.Accepted.{opened_ok}
 use Rattle.model.proofs.Calls.{Inv, always}
 use Rattle.model.proofs.Fits.{sound_fit, listed_fit}
 
-starts_later : (m : ℕ) (ss : List Segment) → All (Good m) ss → StartsLater ss
+starts_later : (m : ℕ) (ss : List Segment) → AllByRecursion (Good m) ss → StartsLater ss
 starts_later m [] h = tt
 starts_later m (s ∷ []) h = tt
 starts_later m (s ∷ (r ∷ ss)) h = (omega (arith, total_cons r ss, h.1.0.long), starts_later m (r ∷ ss) h.1)
 
-segments_hold : (m : ℕ) (h : List Event) → All (Good m) (ran_in h) → SegmentsHold m h
+segments_hold : (m : ℕ) (h : List Event) → AllByRecursion (Good m) (ran_in h) → SegmentsHold m h
 segments_hold m h g = record {
   one_processor_each = All-weaker (Good m) _ (λ s k. k.fits.apart) (ran_in h) g;
   fits_a_record = All-weaker (Good m) _ (λ s k. k.fits) (ran_in h) g;

@@ -1,6 +1,6 @@
 -- What holds after every run of a board just opened.
 use Rattle.std.specs.Prelude.{◌≡◌, ℕ, ◌+◌, ◌-◌, ◌*◌, ◌<◌, ◌≤◌, true, List, [], ◌∷◌, length, take, Ok, sum_by}
-use Rattle.std.specs.List.{AllByRecursion as All}
+use Rattle.std.specs.List.{AllByRecursion}
 use Rattle.rows.specs.declared.memory.Task.{Task}
 use Rattle.rows.specs.declared.memory.Token.{Token}
 use Rattle.rows.specs.Tests.{distinct}
@@ -29,14 +29,14 @@ EndsAtRelease p tasks = FirstRelease p.board.tick p.end (take p.board.count task
 abbrev pub WithinSpan : Open → List Token → Type 0
 WithinSpan p tokens =
     let rows = take p.board.count tokens in
-    All (λ x. x.left ≤ p.span) rows × (sum_by (λ x. x.left) rows ≤ p.board.processors * p.span)
+    AllByRecursion (λ x. x.left ≤ p.span) rows × (sum_by (λ x. x.left) rows ≤ p.board.processors * p.span)
 
 -- A plane of n tasks is over at its step n + 1 or before; once it is over, every token stands at 0.
 abbrev pub OverInTime : Open → List Token → List Event → Type 0
 OverInTime p tokens h =
     let n = p.board.count in
     let made = length (since_start h) in
-    (made ≤ n + 1) × (made ≡ n + 1 → p.span ≡ 0) × (p.span ≡ 0 → All (λ x. x.left ≡ 0) (take n tokens))
+    (made ≤ n + 1) × (made ≡ n + 1 → p.span ≡ 0) × (p.span ≡ 0 → AllByRecursion (λ x. x.left ≡ 0) (take n tokens))
 
 -- A task's token has fallen from the share of so many ticks by the segments with its tag.
 abbrev pub Paid : ℕ → ℕ → List Segment → Task → Token → Type 0
@@ -56,7 +56,7 @@ FallenBySegments p m h =
 -- At a task's release, its segments since admission add up to its execution time for each period gone.
 abbrev pub ServedAtRelease : Rest → List Task → List Event → Type 0
 ServedAtRelease b tasks h =
-    All (λ t. (k : ℕ) → b.tick ≡ t.release + k * t.period
+    AllByRecursion (λ t. (k : ℕ) → b.tick ≡ t.release + k * t.period
     → run_by t.tag (since_admission t.tag h) ≡ k * t.execution * b.scale)
     (take b.count tasks)
 
@@ -68,11 +68,11 @@ ClockIsTotal b h = b.tick * b.scale ≡ total (ran_in h)
 
 -- No segment has a task on two processors.
 abbrev pub OneProcessorEach : List Event → Type 0
-OneProcessorEach h = All (λ s. distinct s.row ≡ true) (ran_in h)
+OneProcessorEach h = AllByRecursion (λ s. distinct s.row ≡ true) (ran_in h)
 
 -- Each is one that a plan file can hold: a length of 1 to 2 ^ 54, a kind of 1 to 4, and no tag past the last processor.
 abbrev pub FitsARecord : ℕ → List Event → Type 0
-FitsARecord m h = All (Writable m) (ran_in h)
+FitsARecord m h = AllByRecursion (Writable m) (ran_in h)
 
 -- A segment starts where the one before it ended, the first at 0. Each starts later than the one before.
 abbrev pub StartsLater : List Segment → Type 0

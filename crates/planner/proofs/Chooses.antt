@@ -1,7 +1,7 @@
 -- A lawful choice over sound tokens can be run.
 use Rattle.std.proofs.Common.{◌≡◌, ℕ, ◌+◌, ◌-◌, ◌^◌, ◌<◌, ◌≤◌, min, Bool, true, false, cond, not, eqb, ltb, List, [], ◌∷◌, map, get_or, filter, sym, refl, ap, ◌∙◌, inl, inr, arith, eq-eqb, ne_eqb}
 use Rattle.std.proofs.lemmas.Bool.{cases_lt, cases_eq, lt-ltb, le-ltb}
-use Rattle.std.specs.List.{range_with_len, AllByRecursion as All}
+use Rattle.std.specs.List.{range_with_len, AllByRecursion}
 use Rattle.std.proofs.ByRecursion.{All-weaker}
 use Rattle.rows.specs.declared.memory.Token.{Token}
 use Rattle.rows.specs.Tests.{has, distinct}
@@ -16,7 +16,7 @@ use Rattle.model.proofs.Tags.{rises}
 use Rattle.planner.specs.Looking.{least_left, most_left, nearest_kind, Runnable}
 use Rattle.planner.proofs.Distances.{distance_is, event_is, most_at_most}
 
-pub on_processors : (m span : ℕ) (ts : List Token) → Sound m span ts → All (λ x. x.processor ≤ 16) ts
+pub on_processors : (m span : ℕ) (ts : List Token) → Sound m span ts → AllByRecursion (λ x. x.processor ≤ 16) ts
 on_processors m span ts ok = all_in (λ x. x.processor ≤ 16) ts (λ x i. omega (arith, ok.on x i, ok.few))
 
 module _ (m : ℕ) (key : Key) (law : Lawful key) (span : ℕ) (ts : List Token) (ok : Sound m span ts) (some : 0 < span) (short : span ≤ 2 ^ 54) where
@@ -93,7 +93,7 @@ module _ (m : ℕ) (key : Key) (law : Lawful key) (span : ℕ) (ts : List Token)
         ]
 
 -- tests that agree keep the same
-kept_same : {X : Type 0} (t u : X → Bool) (xs : List X) → All (λ x. t x ≡ u x) xs → filter t xs ≡ filter u xs
+kept_same : {X : Type 0} (t u : X → Bool) (xs : List X) → AllByRecursion (λ x. t x ≡ u x) xs → filter t xs ≡ filter u xs
 kept_same t u [] h = refl
 kept_same t u (x ∷ xs) h = λ j. cond (h.0 j) (x ∷ kept_same t u xs h.1 j) (kept_same t u xs h.1 j)
 

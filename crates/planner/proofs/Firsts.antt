@@ -1,6 +1,6 @@
 -- The first of a line: those that are active, and, where tags are different, those with the fewest chosen before them.
 use Rattle.std.proofs.Common.{◌≡◌, ℕ, zero, suc, ◌+◌, ◌≤◌, Bool, true, false, not, ◌&&◌, eqb, ltb, List, [], ◌∷◌, map, take, drop, count_by, sym, refl, ap, ◌∙◌, arith}
-use Rattle.std.specs.List.{AllByRecursion as All}
+use Rattle.std.specs.List.{AllByRecursion}
 use Rattle.std.proofs.lemmas.List.Sums.{sum_by-take-drop}
 use Rattle.std.proofs.lemmas.Bool.{and_parts, and_left, ltb-false, eq-eqb, lt-ltb, le-ltb}
 use Rattle.std.proofs.lemmas.Bool.Decides.{nat_tests}
@@ -48,7 +48,7 @@ Apart ts = (t : ℕ) → count_by (λ y. eqb y.tag t) ts ≤ 1
 -- each is chosen before those behind it
 abbrev pub Strict : List Token → Type 0
 Strict [] = Unit {0}
-Strict (x ∷ xs) = All (λ y. sooner x y ≡ true) xs × Strict xs
+Strict (x ∷ xs) = AllByRecursion (λ y. sooner x y ≡ true) xs × Strict xs
 
 -- rising tags are different
 pub rising_apart : (low : ℕ) (ts : List Token) → increasing low (map (λ t. t.tag) ts) ≡ true → Apart ts

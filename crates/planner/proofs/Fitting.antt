@@ -1,6 +1,6 @@
 -- Token memory that fits, as a step and a finish need it.
 use Rattle.std.proofs.Common.{◌≡◌, ℕ, ◌+◌, ◌*◌, ◌^◌, ◌<◌, ◌≤◌, true, List, ◌++◌, length, take, drop, Ok, Result, sym, refl, ◌∙◌, subst, arith, lt-ltb, le-leb}
-use Rattle.std.specs.List.{AllByRecursion as All}
+use Rattle.std.specs.List.{AllByRecursion}
 use Rattle.std.proofs.lemmas.List.{length-take-le}
 use Rattle.std.proofs.lemmas.Bool.Decides.{nat_tests}
 use Rattle.rows.specs.declared.memory.Token.{Token}
@@ -17,7 +17,7 @@ use Rattle.model.proofs.Counts.{in_all}
 use Rattle.model.proofs.Fits.{fit_sound}
 
 pub sound_rows : (p : Open) (memory : List Token) (k : ℕ) → k ≡ p.board.count → 1 ≤ p.board.processors → p.board.processors ≤ 16
-    → All (λ x. x.tag < 2 ^ 16) (take p.board.count memory) → tokens_fit p memory ≡ true → Sound p.board.processors p.span (take k memory)
+    → AllByRecursion (λ x. x.tag < 2 ^ 16) (take p.board.count memory) → tokens_fit p memory ≡ true → Sound p.board.processors p.span (take k memory)
 sound_rows p memory k k-is some few short fits =
     subst (λ n. Sound p.board.processors p.span (take n memory)) (sym k-is)
     (fit_sound p memory some few (λ x i. in_all (λ x. x.tag < 2 ^ 16) short i) fits).1

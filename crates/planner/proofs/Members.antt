@@ -1,6 +1,6 @@
 -- Members of lists, by place and in parts of a list.
 use Rattle.std.proofs.Common.{◌≡◌, ℕ, zero, suc, ◌<◌, ◌≤◌, true, false, eqb, ltb, List, [], ◌∷◌, map, length, get_or, take, drop, count_by, sym, refl, ap, subst, ⊎_elim, arith}
-use Rattle.std.specs.List.{AllByRecursion as All}
+use Rattle.std.specs.List.{AllByRecursion}
 use Rattle.std.proofs.ByRecursion.{All-get_or, All-take, All-drop}
 use Rattle.std.proofs.lemmas.List.{length-take, get_or-take, drop_more}
 use Rattle.std.proofs.lemmas.List.Sums.{sum_by-take-drop}
@@ -12,7 +12,7 @@ use Rattle.model.proofs.Counts.{bit, in_first, all_in, in_all}
 use Rattle.planner.proofs.Tallies.{in_count}
 
 module _ {X : Type 0} where
-  all_members : (xs : List X) → All (λ x. In x xs) xs
+  all_members : (xs : List X) → AllByRecursion (λ x. In x xs) xs
   all_members xs = all_in (λ x. In x xs) xs (λ x i. i)
 
   -- the members of a part are members of the list

@@ -1,6 +1,6 @@
 -- Rows that run: what letting them run needs.
 use Rattle.std.proofs.Common.{◌≡◌, ℕ, ◌+◌, ◌-◌, ◌<◌, ◌≤◌, Bool, false, cond, not, List, map, length, get_or, take, drop, filter, sym, refl, ap, ◌∙◌, subst, inl, inr, arith}
-use Rattle.std.specs.List.{range_with_len, AllByRecursion as All}
+use Rattle.std.specs.List.{range_with_len, AllByRecursion}
 use Rattle.std.proofs.ByRecursion.{All-get_or, All-weaker, all_kept_by}
 use Rattle.std.proofs.lemmas.List.{get_or_past, take_rest, drop-drop, length-drop}
 use Rattle.std.proofs.lemmas.Bool.{cases_lt}
@@ -19,13 +19,13 @@ use Rattle.planner.proofs.Members.{in_has}
 
 -- rows that have changed have the same places
 pub same_places : (f : Token → Token) (run : List ℕ) (rows after : List Token) → Changed f run rows after → (line : List ℕ) → Places rows line → Places after line
-same_places f run rows after told line ok = record { inside = subst (λ n. All (λ i. i < n) line) (sym told.0) ok.inside; apart = ok.apart }
+same_places f run rows after told line ok = record { inside = subst (λ n. AllByRecursion (λ i. i < n) line) (sym told.0) ok.inside; apart = ok.apart }
 
 settled_low : (places : List ℕ) (d : ℕ) (x : Token) → (settled places d x).processor ≤ 16
 settled_low places d x = grind (arith, nat_tests)
 
 -- those that have run have one of 16 processors or none
-pub settled_on : (places : List ℕ) (d : ℕ) (rows mid : List Token) (run : List ℕ) → Places rows run → Changed (settled places d) run rows mid → All (λ x. x.processor ≤ 16) (those mid run)
+pub settled_on : (places : List ℕ) (d : ℕ) (rows mid : List Token) (run : List ℕ) → Places rows run → Changed (settled places d) run rows mid → AllByRecursion (λ x. x.processor ≤ 16) (those mid run)
 settled_on places d rows mid run ok told =
     all_in (λ x. x.processor ≤ 16) (those mid run) (in_map (λ x. x.processor ≤ 16) (at mid) run low)
   where
@@ -41,7 +41,7 @@ settled_on places d rows mid run ok told =
 pub spare_low : (t : ℕ → Bool) (m : ℕ) (spare : List ℕ) → m ≤ 16 → ((k : ℕ) → get_or spare k 0 ≡ get_or (filter t (range_with_len 1 m)) k 0) → (k : ℕ) → get_or spare k 0 ≤ 16
 spare_low t m spare few is k =
     let xs = filter t (range_with_len 1 m) in
-    let low : All (λ p. p ≤ 16) xs = all_kept_by t (λ p. p ≤ 16) (range_with_len 1 m) (All-weaker (λ p. (1 ≤ p) × (p < 1 + m)) (λ p. p ≤ 16) (λ p h. omega (arith, h.1)) (range_with_len 1 m) (within 1 m)) in
+    let low : AllByRecursion (λ p. p ≤ 16) xs = all_kept_by t (λ p. p ≤ 16) (range_with_len 1 m) (All-weaker (λ p. (1 ≤ p) × (p < 1 + m)) (λ p. p ≤ 16) (λ p h. omega (arith, h.1)) (range_with_len 1 m) (within 1 m)) in
     elim (cases_lt k (length xs)) [
       | inl l ↦ subst (λ p. p ≤ 16) (sym (is k)) (All-get_or (λ p. p ≤ 16) xs k 0 l low)
       | inr g ↦ omega (arith, is k, get_or_past xs k 0 g)

@@ -1,6 +1,6 @@
 -- What a look over the tokens of a plane finds, once it is known who is the last one chosen.
 use Rattle.std.specs.Prelude.{◌≡◌, ℕ, ◌-◌, ◌≤◌, min, max, Bool, true, cond, ◌&&◌, List, [], ◌∷◌, map, Option, ◌==◌, nat_lt, slice_index}
-use Rattle.std.specs.List.{AllByRecursion as All}
+use Rattle.std.specs.List.{AllByRecursion}
 use Rattle.rows.specs.declared.memory.Token.{Token}
 use Rattle.rules.specs.Keys.{Key}
 use Rattle.rows.specs.Limits.{most_processors}
@@ -33,7 +33,7 @@ nearest_kind least most span =
 pub record Runnable (m : ℕ) (picks : Token → Bool) (d : ℕ) (spare : List ℕ) (ts : List Token) : Type 0 where
   pub few : m ≤ most_processors
   pub sorted : rising (map (λ x. x.tag) ts) ≡ true
-  pub reach : All (λ x. picks x ≡ true → d ≤ x.left) ts
-  pub numbered : All (λ x. picks x ≡ true → (1 ≤ assigned m picks ts x) × (assigned m picks ts x ≤ m)) ts
+  pub reach : AllByRecursion (λ x. picks x ≡ true → d ≤ x.left) ts
+  pub numbered : AllByRecursion (λ x. picks x ≡ true → (1 ≤ assigned m picks ts x) × (assigned m picks ts x ≤ m)) ts
   pub apart : distinct (map (assigned m picks ts) ts) ≡ true
   pub spare_is : (k : ℕ) → slice_index spare k ≡ slice_index (free m picks ts) k

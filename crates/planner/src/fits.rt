@@ -1,6 +1,6 @@
 // Whether lent rows fit a board or a plane. Only as many rows as there are tasks are looked at.
 ghost use Rattle.std.specs.Prelude.{◌≡◌, ◌%◌, ◌^◌, ◌<◌, ◌≤◌, true, map, length, take, is_some, if◌then◌else◌, Some, None, sum_by};
-ghost use Rattle.std.specs.List.{AllByRecursion as All};
+ghost use Rattle.std.specs.List.{AllByRecursion};
 ghost use Rattle.rows.specs.Tests.{all, distinct};
 ghost use Rattle.model.specs.Tables.{weight, sound_task, tasks_fit};
 ghost use Rattle.model.specs.Planes.{sound_token, tokens_fit};
@@ -74,7 +74,7 @@ impl Plane {
     fn add_up(&self, rows: &[Token]) -> Option<u64>
         requires { length rows.now ≤ 256 }
         ensures sum { result ≡ (if all (sound_token (plane self.now)) rows.now then Some (sum_by (λ x. x.left) rows.now) else None) }
-        ensures tags { is_some result ≡ true → All (λ x. x.tag < 2 ^ 16) rows.now }
+        ensures tags { is_some result ≡ true → AllByRecursion (λ x. x.tag < 2 ^ 16) rows.now }
     {
         let mut sum = 0;
         for token in rows {
@@ -90,7 +90,7 @@ impl Plane {
     // have, and no processor twice.
     pub(crate) fn tokens_fit(&self, tokens: &[Token]) -> bool
         ensures fits { result ≡ tokens_fit (plane self.now) tokens.now }
-        ensures tags { result ≡ true → All (λ x. x.tag < 2 ^ 16) (take self.now.board.count tokens.now) }
+        ensures tags { result ≡ true → AllByRecursion (λ x. x.tag < 2 ^ 16) (take self.now.board.count tokens.now) }
     {
         let count = self.board.count as usize;
         if tokens.len() < count {

@@ -1,6 +1,6 @@
 // A finish under a rule by which nothing but the time left counts: the active tokens stay in line from step to step.
 ghost use Rattle.std.specs.Prelude.{◌≡◌, ◌+◌, ◌-◌, ◌*◌, ◌^◌, ◌<◌, ◌≤◌, min, ◌++◌, map, length, take, drop};
-ghost use Rattle.std.specs.List.{AllByRecursion as All};
+ghost use Rattle.std.specs.List.{AllByRecursion};
 ghost use Rattle.rows.specs.Kinds.{kind_number};
 ghost use Rattle.rules.specs.Keys.{Key, Lawful, ByLeft};
 ghost use Rattle.plan_file.specs.Records.{record_size, records_bytes};
@@ -20,7 +20,7 @@ use rules::rule::Rule;
 
 // The nearest event of a line of which so many run.
 fn next_event(rows: &[Token], line: &[u8], running: usize, span: u64) -> Event
-    requires inside { All (λ i. i < length rows.now) line.now }
+    requires inside { AllByRecursion (λ i. i < length rows.now) line.now }
     requires within { running ≤ length line.now }
     requires low { most_in rows.now line.now running ≤ span }
     ensures length { result.length ≡ min (least_in rows.now line.now running span) (span - most_in rows.now line.now running) }
@@ -67,7 +67,7 @@ fn rejoin(rows: &[Token], line: &mut [u8], ran: &[u8], running: usize)
     requires same { ran.now ≡ take (length ran.now) line.old }
     requires within { running ≤ length line.old }
     requires left { length ran.now ≤ running }
-    requires inside { All (λ i. i < length rows.now) line.old }
+    requires inside { AllByRecursion (λ i. i < length rows.now) line.old }
     requires ran { Lined (those rows.now ran.now) }
     requires rest { Lined (those rows.now (drop running line.old)) }
     ensures same { Alike (ran.now ++ drop running line.old) (drop (running - length ran.now) line.new) }

@@ -1,6 +1,6 @@
 // One step of a plane over token rows that fit it: choosing, and then running to the next event.
 ghost use Rattle.std.specs.Prelude.{◌≡◌, ℕ, ◌-◌, ◌^◌, ◌<◌, ◌≤◌, min, Bool, false, not, map, filter, slice_index, slice_index_or};
-ghost use Rattle.std.specs.List.{range_with_len, AllByRecursion as All};
+ghost use Rattle.std.specs.List.{range_with_len, AllByRecursion};
 ghost use Rattle.rows.specs.Tests.{has};
 ghost use Rattle.rows.specs.Kinds.{kind_number};
 ghost use Rattle.model.specs.Steps.{chosen, distance, moved, event, row_of, step};
@@ -29,7 +29,7 @@ struct Look {
 
 // Looks over the rows. `last` is the last token chosen.
 fn look_over<R: Rule>(rows: &[Token], rule: &R, span: u64, last: Option<Entry>) -> Look
-    requires { All (λ x. x.processor ≤ 16) rows.now }
+    requires { AllByRecursion (λ x. x.processor ≤ 16) rows.now }
     ensures taken { (p : ℕ) → p < 17 → slice_index_or result.taken p false ≡ has p (map (λ x. x.processor) (filter (picked (R.Rule.ranks rule.now) span last) rows.now)) }
     ensures least { result.least ≡ least_left (picked (R.Rule.ranks rule.now) span last) span rows.now }
     ensures most { result.most ≡ most_left (picked (R.Rule.ranks rule.now) span last) rows.now }

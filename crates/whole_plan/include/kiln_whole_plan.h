@@ -1,4 +1,4 @@
-/* The whole plan of a kiln logger's table, for C. Link target/staticlib/libwhole_plan.a, which `rt staticlib whole_plan` builds. */
+/* The whole plan of a kiln logger's table, for C. Link target/staticlib/libwhole_plan.a, which `sh tools/archive` builds. */
 #ifndef KILN_WHOLE_PLAN_H
 #define KILN_WHOLE_PLAN_H
 

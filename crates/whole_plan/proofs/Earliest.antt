@@ -1,6 +1,6 @@
 -- The earliest release of tasks, and the ticks at which planes end.
 use Rattle.std.proofs.Common.{◌≡◌, ℕ, zero, suc, ◌+◌, ◌*◌, ◌<◌, ◌≤◌, List, [], ◌∷◌, length, get_or, ap, ◌∙◌, ⊎_elim, suc-mul, arith}
-use Rattle.std.specs.List.{AllByRecursion as All}
+use Rattle.std.specs.List.{AllByRecursion}
 use Rattle.std.proofs.ByRecursion.{All-weaker}
 use Rattle.std.proofs.lemmas.Bool.{cases_lt}
 use Rattle.rows.specs.declared.memory.Task.{Task}
@@ -13,7 +13,7 @@ use Rattle.whole_plan.specs.Ends.{tick_after, Released}
 next_bounds : (tick : ℕ) (t : Task) → Released tick t → (tick < next_release tick t) × (next_release tick t ≤ tick + largest_scale)
 next_bounds tick t r = (next_after tick t r.some, omega (arith, next_near tick t r.past, r.few))
 
-pub earliest_bounds : (tick : ℕ) (ts : List Task) → All (Released tick) ts → 0 < length ts
+pub earliest_bounds : (tick : ℕ) (ts : List Task) → AllByRecursion (Released tick) ts → 0 < length ts
     → (tick < earliest tick ts) × (earliest tick ts ≤ tick + largest_scale)
 earliest_bounds tick [] ready some = absurd (omega arith)
 earliest_bounds tick (t ∷ []) ready some = next_bounds tick t ready.0
@@ -23,7 +23,7 @@ earliest_bounds tick (t ∷ (u ∷ ts)) ready some =
     (omega (arith, now.0, more.0), omega (arith, now.1, more.1))
 
 -- it comes within the period of each task
-pub earliest_near : (tick i : ℕ) (ts : List Task) → All (Released tick) ts → i < length ts → earliest tick ts ≤ tick + (get_or ts i zeros).period
+pub earliest_near : (tick i : ℕ) (ts : List Task) → AllByRecursion (Released tick) ts → i < length ts → earliest tick ts ≤ tick + (get_or ts i zeros).period
 earliest_near tick i [] ready h = absurd (omega arith)
 earliest_near tick zero (t ∷ []) ready h = next_near tick t ready.0.past
 earliest_near tick (suc i) (t ∷ []) ready h = absurd (omega arith)
@@ -36,15 +36,15 @@ ends_within ts most near zero = omega arith
 ends_within ts most near (suc k) = omega (arith, near (tick_after k ts), ends_within ts most near k, suc-mul k most)
 
 -- from far off the least is the earliest
-pub least_earliest : (tick far : ℕ) (ts : List Task) → All (Released tick) ts → 0 < length ts → tick + largest_scale ≤ far
+pub least_earliest : (tick far : ℕ) (ts : List Task) → AllByRecursion (Released tick) ts → 0 < length ts → tick + largest_scale ≤ far
     → least tick far ts ≡ earliest tick ts
 least_earliest tick far [] ready some h = absurd (omega arith)
 least_earliest tick far (t ∷ ts) ready some h =
     least_is tick far t ts ∙ omega (arith, (earliest_bounds tick (t ∷ ts) ready some).1)
 
-module _ (ts : List Task) (some : 0 < length ts) (ready : All (Released 0) ts) where
+module _ (ts : List Task) (some : 0 < length ts) (ready : AllByRecursion (Released 0) ts) where
   -- who was released by tick 0 was so by each later tick
-  pub ready_at : (tick : ℕ) → All (Released tick) ts
+  pub ready_at : (tick : ℕ) → AllByRecursion (Released tick) ts
   ready_at tick = All-weaker (Released 0) (Released tick) (λ t r. record { past = omega (arith, r.past); some = r.some; few = r.few }) ts ready
 
   -- more planes end later

@@ -1,6 +1,6 @@
 -- The run of calls that a whole plan makes: its planes.
 use Rattle.std.proofs.Common.{◌≡◌, ℕ, ◌+◌, ◌-◌, ◌*◌, ◌<◌, ◌≤◌, true, false, leb, List, [], ◌∷◌, ◌++◌, map, reverse, length, take, drop, replicate, Ok, Err, sym, refl, ap, ◌∙◌, mul-pos, arith}
-use Rattle.std.specs.List.{AllByRecursion as All}
+use Rattle.std.specs.List.{AllByRecursion}
 use Rattle.std.proofs.lemmas.List.{length-replicate, length-take, take_at, reverse-append}
 use Rattle.std.proofs.lemmas.Bool.{lt-ltb, le-leb, eq-eqb}
 use Rattle.rows.specs.declared.refusal.Refusal.TheVariants.{PastLastTick}
@@ -43,7 +43,7 @@ pub record Ran (first : World) (b : Rest) (m : Memory) (ss : List Segment) : Typ
   pub more : List Segment
   pub goes : plane_planned b m.tasks m.tokens ≡ Ok (at_tick b (earliest b.tick (take b.count m.tasks)), tokens, records_bytes b.processors more)
   pub there : b.count ≤ length tokens
-  pub writable : All (Writable b.processors) more
+  pub writable : AllByRecursion (Writable b.processors) more
   pub release : FirstRelease b.tick (earliest b.tick (take b.count m.tasks)) (take b.count m.tasks)
   pub reached : Reached first (at_tick b (earliest b.tick (take b.count m.tasks))) (with_tokens m tokens) (ss ++ more)
 
@@ -103,7 +103,7 @@ module _ (first : World) (inv : Inv first) (b : Rest) (m : Memory) (ss : List Se
     over : done.1 ≡ 0
     over = span_out b.processors b.count p.span (take b.count ks) runs.there runs.sound runs.short largest_first lawful
 
-    writable : All (Writable b.processors) done.0
+    writable : AllByRecursion (Writable b.processors) done.0
     writable = all_writable b.processors b.count p.span (take b.count ks) runs.there runs.sound runs.short largest_first lawful
 
     back : segments_of f ≡ done.0

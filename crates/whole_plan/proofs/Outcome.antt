@@ -1,6 +1,6 @@
 -- The whole plan of a table whose rows are all admitted: which of its ends it comes to.
 use Rattle.std.proofs.Common.{◌≡◌, ℕ, zero, suc, ◌+◌, ◌*◌, ◌^◌, ◌<◌, ◌≤◌, Bool, true, false, leb, List, [], ◌∷◌, ◌++◌, map, length, take, is_ok, Some, None, Ok, Err, Result, sym, refl, ap, ◌∙◌, subst, mul-le-mul_right, mul-le-mul, le_of_mul-le-mul_right, arith}
-use Rattle.std.specs.List.{range_with_len, AllByRecursion as All}
+use Rattle.std.specs.List.{range_with_len, AllByRecursion}
 use Rattle.std.proofs.ByRecursion.{All-weaker}
 use Rattle.std.proofs.lemmas.Bool.Decides.{nat_tests}
 use Rattle.std.proofs.lemmas.Bool.{leb-true}
@@ -50,12 +50,12 @@ opens_table table f = ap (λ f. faults.answered f table) f
 pub not_admitted : (table : List ℕ) (room : ℕ) (e : Refusal) → table_fault table ≡ None → table_admitted table ≡ Err e → whole_plan table room ≡ Err e
 not_admitted table room e f h = then_on _ (opens_table table f) ∙ then_err _ h
 
-each_writable : (m : ℕ) (ss : List Segment) → All (Writable m) ss → EachWritable m ss
+each_writable : (m : ℕ) (ss : List Segment) → AllByRecursion (Writable m) ss → EachWritable m ss
 each_writable m [] h = tt
 each_writable m (s ∷ ss) h = (h.0, each_writable m ss h.1)
 
 -- tags of 16 bits
-short_tags : (table : List ℕ) → Below 256 table → (i n : ℕ) → All (λ row. row.tag < 2 ^ 16) (map (table_row_at table) (range_with_len i n))
+short_tags : (table : List ℕ) → Below 256 table → (i n : ℕ) → AllByRecursion (λ row. row.tag < 2 ^ 16) (map (table_row_at table) (range_with_len i n))
 short_tags table bytes i zero = tt
 short_tags table bytes i (suc n) = (omega (arith, bytes (14 + 10 * i), bytes (14 + 10 * i + 1)), short_tags table bytes (i + 1) n)
 
@@ -107,7 +107,7 @@ module _ (table : List ℕ) (bytes : Below 256 table) (whole : table_fault table
   pub rows : 0 < length ts
   rows = omega (arith, rests.listed.there, some)
 
-  pub ready : All (Released 0) ts
+  pub ready : AllByRecursion (Released 0) ts
   ready = all_in (Released 0) ts (λ t i.
       let k = rests.tasks t i in
       record {
@@ -179,10 +179,10 @@ module _ (table : List ℕ) (bytes : Below 256 table) (whole : table_fault table
     abbrev ss : List Segment
     ss = w.segments
 
-    writable : All (Writable m) ss
-    writable = subst (λ m. All (Writable m) ss) of_processors w.writable
+    writable : AllByRecursion (Writable m) ss
+    writable = subst (λ m. AllByRecursion (Writable m) ss) of_processors w.writable
 
-    long : All Long ss
+    long : AllByRecursion Long ss
     long = All-weaker (Writable m) Long (λ s k. let f = k.faultless in grind (arith, nat_tests)) ss writable
 
     units : total ss ≡ tick_after planes ts * q
@@ -211,8 +211,8 @@ module _ (table : List ℕ) (bytes : Below 256 table) (whole : table_fault table
       processors = read_back.1;
       scale = read_back.2;
       each_start_is_later = subst (λ ss. (i : ℕ) → i + 1 < length ss → start_of ss i < start_of ss (i + 1)) (sym read_back.3) (starts_later ss long);
-      no_task_twice = subst (All (λ s. distinct s.row ≡ true)) (sym read_back.3) (All-weaker (Writable m) _ (λ s k. k.apart) ss writable);
-      every_period_served = subst (λ ss. All (ServesEveryPeriod q ss) (table_rows table)) (sym read_back.3) (all_in _ (table_rows table) row_served);
+      no_task_twice = subst (AllByRecursion (λ s. distinct s.row ≡ true)) (sym read_back.3) (All-weaker (Writable m) _ (λ s k. k.apart) ss writable);
+      every_period_served = subst (λ ss. AllByRecursion (ServesEveryPeriod q ss) (table_rows table)) (sym read_back.3) (all_in _ (table_rows table) row_served);
       long_enough = subst (λ ss. planes * q ≤ total ss) (sym read_back.3) (omega (arith, units, mul-le-mul_right q w.lasts));
     })
 

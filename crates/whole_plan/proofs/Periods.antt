@@ -1,6 +1,6 @@
 -- Segments that start within a period.
 use Rattle.std.proofs.Common.{◌≡◌, ℕ, ◌+◌, ◌*◌, ◌<◌, ◌≤◌, Bool, cond, ◌&&◌, ltb, leb, List, [], ◌∷◌, ◌++◌, length, get_or, take, refl, ap, ◌∙◌, subst, arith}
-use Rattle.std.specs.List.{AllByRecursion as All}
+use Rattle.std.specs.List.{AllByRecursion}
 use Rattle.std.proofs.lemmas.List.{take_more}
 use Rattle.std.proofs.ByRecursion.{All-get_or}
 use Rattle.std.proofs.lemmas.List.Sums.{sum_by_push}
@@ -18,7 +18,7 @@ abbrev pub Long : Segment → Type 0
 Long s = 0 < s.units
 
 -- each starts later than the one before
-pub starts_later : (ss : List Segment) → All Long ss → (i : ℕ) → i + 1 < length ss → start_of ss i < start_of ss (i + 1)
+pub starts_later : (ss : List Segment) → AllByRecursion Long ss → (i : ℕ) → i + 1 < length ss → start_of ss i < start_of ss (i + 1)
 starts_later ss long i h =
     let none : Segment = record { units = 0; kind = 0; row = [] } in
     let e : total (take (i + 1) ss) ≡ total (take i ss) + (get_or ss i none).units = ap total (take_more ss i none (omega arith)) ∙ sum_by_push (λ s. s.units) (take i ss) (get_or ss i none) in
@@ -46,7 +46,7 @@ one_before : (until start u : ℕ) (h : Bool) → start < until → cond (leb 0 
 one_before until start u h l = grind (arith, nat_tests)
 
 -- those that start before a unit, where the front ends at it
-up_to : (tag until start : ℕ) (front back : List Segment) → All Long front → start + total front ≡ until → run_within tag 0 until start (front ++ back) ≡ run_by tag front
+up_to : (tag until start : ℕ) (front back : List Segment) → AllByRecursion Long front → start + total front ≡ until → run_within tag 0 until start (front ++ back) ≡ run_by tag front
 up_to tag until start [] back long e = past tag until start back (omega arith)
 up_to tag until start (s ∷ front) back long e =
     let t = total_cons s front in
@@ -57,20 +57,20 @@ up_to tag until start (s ∷ front) back long e =
       up_to tag until (start + s.units) front back long.1 (omega arith),
     )
 
-front_long : (xs ys : List Segment) → All Long (xs ++ ys) → All Long xs
+front_long : (xs ys : List Segment) → AllByRecursion Long (xs ++ ys) → AllByRecursion Long xs
 front_long [] ys h = tt
 front_long (x ∷ xs) ys h = (h.0, front_long xs ys h.1)
 
 -- up to a release a task's segments add up to its work for the periods gone
-pub served_until : (scale : ℕ) (t : Task) (j : ℕ) (ss : List Segment) → All Long ss → Split scale t j ss
+pub served_until : (scale : ℕ) (t : Task) (j : ℕ) (ss : List Segment) → AllByRecursion Long ss → Split scale t j ss
     → run_within t.tag 0 (j * t.period * scale) 0 ss ≡ j * t.execution * scale
 served_until scale t j ss long s =
     ap (run_within t.tag 0 (j * t.period * scale) 0) s.is
-    ∙ up_to t.tag (j * t.period * scale) 0 s.front s.back (front_long s.front s.back (subst (All Long) s.is long)) (omega (arith, s.long))
+    ∙ up_to t.tag (j * t.period * scale) 0 s.front s.back (front_long s.front s.back (subst (AllByRecursion Long) s.is long)) (omega (arith, s.long))
     ∙ s.runs
 
 -- and so within one period
-pub served_within : (scale : ℕ) (t : Task) (j : ℕ) (ss : List Segment) → All Long ss → Split scale t j ss → Split scale t (j + 1) ss
+pub served_within : (scale : ℕ) (t : Task) (j : ℕ) (ss : List Segment) → AllByRecursion Long ss → Split scale t j ss → Split scale t (j + 1) ss
     → run_within t.tag (j * t.period * scale) ((j + 1) * t.period * scale) 0 ss ≡ t.execution * scale
 served_within scale t j ss long s r =
     omega (

@@ -1,6 +1,6 @@
 -- The run of calls that a whole plan makes: its admissions.
 use Rattle.std.proofs.Common.{◌≡◌, ℕ, ◌+◌, ◌^◌, ◌<◌, ◌≤◌, Bool, true, false, cond, eqb, ltb, List, [], ◌∷◌, ◌++◌, reverse, length, take, drop, Ok, filter, Result, sym, refl, ap, ◌∙◌, subst, ⊎_elim, arith, take_at}
-use Rattle.std.specs.List.{AllByRecursion as All}
+use Rattle.std.specs.List.{AllByRecursion}
 use Rattle.std.proofs.lemmas.Bool.{cases_lt, lt-ltb}
 use Rattle.rows.specs.declared.refusal.Refusal.{Refusal}
 use Rattle.rows.specs.declared.memory.Task.{Task}
@@ -126,7 +126,7 @@ module _ (first : World) (start : Inv first) where
               (in_cons x row rows i);
         }
 
-  pub rows_grown : (b : Rest) (m : Memory) (rows : List TableRow) (r : Rest × List Task) → All (λ row. row.tag < 2 ^ 16) rows → Reached first b m []
+  pub rows_grown : (b : Rest) (m : Memory) (rows : List TableRow) (r : Rest × List Task) → AllByRecursion (λ row. row.tag < 2 ^ 16) rows → Reached first b m []
       → rows_admitted b m.tasks rows ≡ Ok r → Grown b m rows r
   rows_grown b m [] r short o e =
       let is = value _ r e in

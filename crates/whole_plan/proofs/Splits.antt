@@ -1,7 +1,7 @@
 -- All planes of a whole plan: where they go through, and what their segments add up to at each release.
 use Rattle.std.proofs.Common.{◌≡◌, ℕ, zero, suc, ◌+◌, ◌*◌, ◌<◌, ◌≤◌, Bool, true, false, cond, leb, List, [], ◌∷◌, ◌++◌, reverse, length, take, Ok, Err, filter, sym, refl, ap, ◌∙◌, subst, ⊎_elim, append_assoc, append-nil, mul-le-mul_left, arith}
 use mathlib.Core.List.{reverse-cons}
-use Rattle.std.specs.List.{AllByRecursion as All}
+use Rattle.std.specs.List.{AllByRecursion}
 use Rattle.std.proofs.lemmas.List.Elements.{filter-append}
 use Rattle.std.proofs.ByRecursion.{All-append}
 use Rattle.std.proofs.lemmas.List.Sums.{sum_by-append}
@@ -73,7 +73,7 @@ module _ (m q : ℕ) (b₀ : Rest) (memory : Memory) (opens : opened m q ≡ Ok 
       )
 
   module _ (b : Rest) (u : Memory) (o : Reached first b u []) (some : 0 < b.count) (room : b.count ≤ length u.tokens)
-      (rows : 0 < length (take b.count u.tasks)) (began : b.tick ≡ 0) (ready : All (Released 0) (take b.count u.tasks)) where
+      (rows : 0 < length (take b.count u.tasks)) (began : b.tick ≡ 0) (ready : AllByRecursion (Released 0) (take b.count u.tasks)) where
     abbrev ts : List Task
     ts = take b.count u.tasks
 
@@ -83,7 +83,7 @@ module _ (m q : ℕ) (b₀ : Rest) (memory : Memory) (opens : opened m q ≡ Ok 
       pub segments : List Segment
       pub goes : planes_planned k b u.tasks u.tokens ≡ Ok (at_tick b (tick_after k ts), tokens, records_bytes b.processors segments)
       pub there : b.count ≤ length tokens
-      pub writable : All (Writable b.processors) segments
+      pub writable : AllByRecursion (Writable b.processors) segments
       pub reached : Reached first (at_tick b (tick_after k ts)) (with_tokens u tokens) segments
       pub splits : (t : Task) → In t ts → (j : ℕ) → j * t.period ≤ tick_after k ts → Split b.scale t j segments
       pub lasts : k ≤ tick_after k ts

@@ -1,6 +1,6 @@
 -- What a plan file promises by its bytes alone: read back, its records serve every task of the table in every period.
 use Rattle.std.specs.Prelude.{◌≡◌, ℕ, ◌+◌, ◌*◌, ◌<◌, ◌≤◌, true, cond, ◌&&◌, List, [], ◌∷◌, length, take, None, nat_le, nat_lt}
-use Rattle.std.specs.List.{AllByRecursion as All}
+use Rattle.std.specs.List.{AllByRecursion}
 use Rattle.rows.specs.Tests.{has, distinct}
 use Rattle.plan_file.specs.Records.{Segment}
 use Rattle.plan_file.specs.Opening.{file_processors, file_scale}
@@ -33,6 +33,6 @@ pub record PlanServesEveryPeriod (table file : List ℕ) : Type 0 where
   pub processors : file_processors file ≡ table_processors table
   pub scale : file_scale file ≡ table_scale table
   pub each_start_is_later : (i : ℕ) → i + 1 < length (file_segments file) → start_of (file_segments file) i < start_of (file_segments file) (i + 1)
-  pub no_task_twice : All (λ s. distinct s.row ≡ true) (file_segments file)
-  pub every_period_served : All (ServesEveryPeriod (table_scale table) (file_segments file)) (table_rows table)
+  pub no_task_twice : AllByRecursion (λ s. distinct s.row ≡ true) (file_segments file)
+  pub every_period_served : AllByRecursion (ServesEveryPeriod (table_scale table) (file_segments file)) (table_rows table)
   pub long_enough : table_planes table * table_scale table ≤ total (file_segments file)

@@ -1,6 +1,6 @@
 // The ends of the planes of a whole plan, known before any of them is run.
 ghost use Rattle.std.specs.Prelude.{◌≡◌, ℕ, ◌+◌, ◌<◌, ◌≤◌, length, take, nat_le};
-ghost use Rattle.std.specs.List.{AllByRecursion as All};
+ghost use Rattle.std.specs.List.{AllByRecursion};
 ghost use Rattle.rows.specs.Limits.{last_tick};
 ghost use Rattle.model.specs.Tables.{earliest};
 ghost use Rattle.planner.specs.Views.{rest};
@@ -15,7 +15,7 @@ use rows::refusal::Refusal;
 // The earliest release after a tick of tasks that were released by then.
 fn plane_end(rows: &[Task], tick: u32) -> u64
     requires some { 0 < length rows.now }
-    requires ready { All (Released tick) rows.now }
+    requires ready { AllByRecursion (Released tick) rows.now }
     ensures value { result ≡ earliest tick rows.now }
     ensures later { tick < result }
 {
@@ -30,7 +30,7 @@ fn plane_end(rows: &[Task], tick: u32) -> u64
 // The shortest period: no plane is longer, wherever it starts.
 fn shortest(rows: &[Task]) -> u32
     requires some { 0 < length rows.now }
-    requires ready { All (Released 0) rows.now }
+    requires ready { AllByRecursion (Released 0) rows.now }
     ensures { (tick : ℕ) → earliest tick rows.now ≤ tick + result }
 {
     let mut period = u32::MAX;
@@ -43,7 +43,7 @@ fn shortest(rows: &[Task]) -> u32
 // Whether so many planes, the first from tick 0 on, end by the last tick.
 fn end_in_time(rows: &[Task], planes: u16) -> bool
     requires some { 0 < length rows.now }
-    requires ready { All (Released 0) rows.now }
+    requires ready { AllByRecursion (Released 0) rows.now }
     ensures { result ≡ nat_le (tick_after planes rows.now) last_tick }
 {
     // Planes that end in time even if each were that long need no closer look.
@@ -70,7 +70,7 @@ pub(crate) fn check_planes(
 ) -> Result<(), Refusal>
     requires there { board.now.count ≤ length tasks.now }
     requires some { 0 < length (take board.now.count tasks.now) }
-    requires ready { All (Released 0) (take board.now.count tasks.now) }
+    requires ready { AllByRecursion (Released 0) (take board.now.count tasks.now) }
     ensures { result ≡ planes_check planes (rest board.now) tasks.now room }
 {
     let count = board.count() as usize;

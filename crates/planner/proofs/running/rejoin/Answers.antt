@@ -1,6 +1,6 @@
 use Rattle.std.proofs.Common.{ℕ, ◌-◌, ◌<◌, ◌++◌, length, drop, sym, subst, arith}
 use mathlib.Core.Path.{transport}
-use Rattle.std.specs.List.{AllByRecursion as All}
+use Rattle.std.specs.List.{AllByRecursion}
 use Rattle.std.proofs.ByRecursion.{All-append, All-take, All-drop}
 use Rattle.planner.specs.Lining.{Lined, Alike, those}
 use Rattle.planner.proofs.Gathering.{lent_part}
@@ -17,8 +17,8 @@ merge-requires c =
     let P : ℕ → Type 0 = λ i. i < length rows in
     record {
       room = lent_room line ran running c.requires.within c.requires.left;
-      inside = subst (λ l. All P (ran ++ l)) (sym rest)
-          (All-append P ran (drop running line) (subst (All P) (sym c.requires.same) (All-take P (length ran) line c.requires.inside)) (All-drop P running line c.requires.inside));
+      inside = subst (λ l. AllByRecursion P (ran ++ l)) (sym rest)
+          (All-append P ran (drop running line) (subst (AllByRecursion P) (sym c.requires.same) (All-take P (length ran) line c.requires.inside)) (All-drop P running line c.requires.inside));
       ran = c.requires.ran;
       rest = subst (λ l. Lined (those rows l)) (sym rest) c.requires.rest;
     }

@@ -3,7 +3,7 @@ use Rattle.std.proofs.ByRecursion.{All-more}
 use Rattle.std.proofs.lemmas.List.{at_drop_more, at_drop_all, take_all}
 use Rattle.std.proofs.lemmas.List.Sums.{sum_by-drop_more}
 use Rattle.std.proofs.lemmas.Bool.Decides.{nat_tests}
-use Rattle.std.specs.List.{AllByRecursion as All}
+use Rattle.std.specs.List.{AllByRecursion}
 use Rattle.rows.specs.declared.memory.Token.{Token}
 use Rattle.rows.specs.Tests.{all}
 use Rattle.model.specs.Planes.{sound_token}
@@ -48,5 +48,5 @@ returns c =
     let f = at_drop_all (sum_by (λ (x : Token). x.left)) c.args.rows.now c.loop-token.token-index (omega arith) in
     record {
       sum = grind (arith, nat_tests);
-      tags = λ some. subst (All (λ x. x.tag < 2 ^ 16)) (take_all c.loop-token.token-index c.args.rows.now (omega arith)) c.loop-token.invariant.3;
+      tags = λ some. subst (AllByRecursion (λ x. x.tag < 2 ^ 16)) (take_all c.loop-token.token-index c.args.rows.now (omega arith)) c.loop-token.invariant.3;
     }

@@ -1,5 +1,5 @@
 use Rattle.std.proofs.Common.{◌≡◌, ◌+◌, ◌*◌, ◌^◌, ◌<◌, ◌≤◌, take, drop, sum_by}
-use Rattle.std.specs.List.{AllByRecursion as All}
+use Rattle.std.specs.List.{AllByRecursion}
 use Rattle.rows.specs.Tests.{all}
 use Rattle.model.specs.Planes.{sound_token}
 use Rattle.planner.specs.Views.{plane}
@@ -10,4 +10,4 @@ invariant-loop-token l =
     (all (sound_token (plane l.self)) (drop l.token-index l.rows) ≡ all (sound_token (plane l.self)) l.rows)
     × (l.sum + sum_by (λ x. x.left) (drop l.token-index l.rows) ≡ sum_by (λ x. x.left) l.rows)
     × (l.sum ≤ l.token-index * 2 ^ 54)
-    × All (λ x. x.tag < 2 ^ 16) (take l.token-index l.rows)
+    × AllByRecursion (λ x. x.tag < 2 ^ 16) (take l.token-index l.rows)
