@@ -1,6 +1,6 @@
 # What the scripts of this folder share.
 OUT=target/bench
-KIT=$(dirname "$(dirname "$(rt doc)")")
+KIT=$(dirname "$(rt doc)")
 mkdir -p "$OUT"
 
 # The archive of the library; it is built only if it is proved.
