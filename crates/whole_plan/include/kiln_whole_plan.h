@@ -11,7 +11,7 @@ extern "C" {
 
 /*
  * Makes the plan file of the table file in the table_len bytes at table, and writes it to the front of the plan_len bytes at plan.
- * Any bytes and any lengths go. The call keeps nothing, allocates nothing and takes about 11 KB of stack.
+ * Any bytes and any lengths go. The call keeps nothing, allocates nothing and takes about 9 KB of stack.
  *
  * The caller must see to it, since the call cannot, that
  *   - table is valid for reading table_len bytes, and plan for reading and writing plan_len bytes. Neither is null, also where the length is 0;
