@@ -32,10 +32,5 @@ impl Keyed for Token {
 pub fn is_rising<T: Keyed>(rows: &[T]) -> bool
     ensures { result ≡ rising (map T.Keyed.ordinal rows.now) }
 {
-    for i in 1..rows.len() {
-        if rows[i - 1].key() >= rows[i].key() {
-            return false;
-        }
-    }
-    true
+    rows.is_sorted_by(|before, after| before.key() < after.key())
 }

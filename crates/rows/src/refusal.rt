@@ -1,111 +1,134 @@
 // Why an operation said no.
-ghost use Rattle.std.specs.Prelude.{◌≡◌};
+ghost use Rattle.std.specs.Prelude.{◌≡◌, Some};
 ghost use Rattle.rows.specs.Refusals.{refusal_number};
+ghost use Rattle.rows.specs.Words.{refusal_words};
+
+use std::error::Error;
+use std::fmt;
 
 /// One case for each number; docs/REFUSALS.md says which call gives it and when.
 #[derive(Clone, Copy, PartialEq, Eq, Debug)]
 pub enum Refusal {
     /// The number of processors is not 1 to 16.
-    Processors,
+    Processors = 1,
     /// The scale is not 1 to 134,217,728.
-    Scale,
+    Scale = 2,
     /// The lent rows do not fit the board or the plane.
-    Memory,
+    Memory = 3,
     /// A task's tag is 0.
-    TagZero,
+    TagZero = 4,
     /// The execution time is 0 or above the period.
-    Execution,
+    Execution = 5,
     /// The period does not divide the scale.
-    Period,
+    Period = 6,
     /// The tag is on the board already.
-    TagPresent,
+    TagPresent = 7,
     /// There is no room for a further task.
-    TasksFull,
+    TasksFull = 8,
     /// The load would pass what the processors can do.
-    Overload,
+    Overload = 9,
     /// The tag is not on the board.
-    TagAbsent,
+    TagAbsent = 10,
     /// The present tick is no release of the task.
-    NotReleased,
+    NotReleased = 11,
     /// The board has no task.
-    NoTask,
+    NoTask = 12,
     /// The plane would end past the last tick.
-    PastLastTick,
+    PastLastTick = 13,
     /// The plane is over.
-    PlaneOver,
+    PlaneOver = 15,
     /// The buffer is too short for the records.
-    BufferShort,
+    BufferShort = 16,
     /// The plane is not over.
-    PlaneOpen,
+    PlaneOpen = 17,
     /// Too many places are asked for, or the queue's memory is too short.
-    Places,
+    Places = 18,
     /// The queue is full.
-    QueueFull,
+    QueueFull = 19,
     /// A table file is shorter than its header.
-    TableShort,
+    TableShort = 20,
     /// The file does not begin with its three letters.
-    Mark,
+    Mark = 21,
     /// The file has another version.
-    Version,
+    Version = 22,
     /// A table file's length is not that of its rows.
-    TableLength,
+    TableLength = 23,
     /// A table file asks for no plane.
-    NoPlanes,
+    NoPlanes = 24,
     /// A table file has no row or more than 256.
-    TaskCount,
+    TaskCount = 25,
     /// The buffer is too short for the whole plan.
-    PlanBuffer,
+    PlanBuffer = 26,
     /// A plan file is shorter than its header.
-    PlanShort,
+    PlanShort = 30,
     /// The bytes left are fewer than a record.
-    RecordShort,
+    RecordShort = 31,
     /// A record's length is 0 or above 2^54.
-    Length,
+    Length = 32,
     /// A record's kind is not 1 to 4.
-    Kind,
+    Kind = 33,
     /// A tag stands twice in a row.
-    TagTwice,
+    TagTwice = 34,
     /// A tag stands past the last processor.
-    TagPastProcessors,
+    TagPastProcessors = 35,
+}
+
+impl From<Refusal> for u8 {
+    ghost from_gives = { λ refusal number. number ≡ refusal_number refusal };
+
+    fn from(refusal: Refusal) -> u8 {
+        refusal as u8
+    }
 }
 
 impl Refusal {
-    /// The number that is reported for it.
-    pub fn number(self) -> u8
-        ensures { result ≡ refusal_number self }
+    /// What was wrong, in words.
+    pub fn words(self) -> &'static str
+        ensures { result.now ≡ refusal_words self }
     {
         match self {
-            Refusal::Processors => 1,
-            Refusal::Scale => 2,
-            Refusal::Memory => 3,
-            Refusal::TagZero => 4,
-            Refusal::Execution => 5,
-            Refusal::Period => 6,
-            Refusal::TagPresent => 7,
-            Refusal::TasksFull => 8,
-            Refusal::Overload => 9,
-            Refusal::TagAbsent => 10,
-            Refusal::NotReleased => 11,
-            Refusal::NoTask => 12,
-            Refusal::PastLastTick => 13,
-            Refusal::PlaneOver => 15,
-            Refusal::BufferShort => 16,
-            Refusal::PlaneOpen => 17,
-            Refusal::Places => 18,
-            Refusal::QueueFull => 19,
-            Refusal::TableShort => 20,
-            Refusal::Mark => 21,
-            Refusal::Version => 22,
-            Refusal::TableLength => 23,
-            Refusal::NoPlanes => 24,
-            Refusal::TaskCount => 25,
-            Refusal::PlanBuffer => 26,
-            Refusal::PlanShort => 30,
-            Refusal::RecordShort => 31,
-            Refusal::Length => 32,
-            Refusal::Kind => 33,
-            Refusal::TagTwice => 34,
-            Refusal::TagPastProcessors => 35,
+            Refusal::Processors => "the number of processors is not 1 to 16",
+            Refusal::Scale => "the scale is not 1 to 134217728",
+            Refusal::Memory => "the lent rows do not fit",
+            Refusal::TagZero => "the tag is 0",
+            Refusal::Execution => "the execution time is 0 or above the period",
+            Refusal::Period => "the period does not divide the scale",
+            Refusal::TagPresent => "the tag is on the board already",
+            Refusal::TasksFull => "there is no room for a further task",
+            Refusal::Overload => "the load would pass what the processors can do",
+            Refusal::TagAbsent => "the tag is not on the board",
+            Refusal::NotReleased => "the present tick is no release of the task",
+            Refusal::NoTask => "the board has no task",
+            Refusal::PastLastTick => "the plane would end past the last tick",
+            Refusal::PlaneOver => "the plane is over",
+            Refusal::BufferShort => "the buffer is too short for the records",
+            Refusal::PlaneOpen => "the plane is not over",
+            Refusal::Places =>
+                "too many places are asked for, or the memory of the queue is too short",
+            Refusal::QueueFull => "the queue is full",
+            Refusal::TableShort => "the file is shorter than the header of a table",
+            Refusal::Mark => "the file does not begin with its three letters",
+            Refusal::Version => "the file has another version",
+            Refusal::TableLength => "the length of the table is not that of its rows",
+            Refusal::NoPlanes => "the table asks for no plane",
+            Refusal::TaskCount => "the table has no row or more than 256",
+            Refusal::PlanBuffer => "the buffer is too short for the whole plan",
+            Refusal::PlanShort => "the file is shorter than the header of a plan",
+            Refusal::RecordShort => "the bytes left are fewer than a record",
+            Refusal::Length => "the length of the record is 0 or above 2^54",
+            Refusal::Kind => "the kind of the record is not 1 to 4",
+            Refusal::TagTwice => "a tag stands twice in the row",
+            Refusal::TagPastProcessors => "a tag stands past the last processor",
         }
     }
 }
+
+impl fmt::Display for Refusal {
+    ghost output = { λ refusal. Some (refusal_words refusal) };
+
+    fn fmt<W: fmt::Write>(&self, f: &mut fmt::Formatter<W>) -> fmt::Result {
+        f.write_str(self.words())
+    }
+}
+
+impl Error for Refusal {}

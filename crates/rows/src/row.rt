@@ -5,22 +5,11 @@ ghost use Rattle.rows.specs.Tests.{has, distinct};
 
 use crate::refusal::Refusal;
 
-/// A tag for each of 16 processors, 0 where none runs. Place i, from 1, is processor i; no tag but 0 stands twice.
-#[derive(Clone, Copy)]
+/// A tag for each of 16 processors, 0 where none runs, as files and callers have it. Place i, from 1, is processor i; no tag but 0 stands twice.
+#[derive(Clone, Copy, PartialEq, Eq, Debug)]
 pub struct Row {
     places: [u16; 16],
     ghost apart: { distinct places ≡ true },
-}
-
-fn stands_in(tag: u16, tags: &[u16]) -> bool
-    ensures { result ≡ has tag tags.now }
-{
-    for t in tags {
-        if *t == tag {
-            return true;
-        }
-    }
-    false
 }
 
 // Whether no tag but 0 stands twice.
@@ -28,7 +17,7 @@ fn are_distinct(tags: &[u16]) -> bool
     ensures { result ≡ distinct tags.now }
 {
     for (i, tag) in tags.iter().enumerate() {
-        if *tag != 0 && stands_in(*tag, &tags[i + 1..]) {
+        if *tag != 0 && tags[i + 1..].contains(tag) {
             return false;
         }
     }

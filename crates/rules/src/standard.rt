@@ -3,9 +3,7 @@ ghost use Rattle.rules.specs.Keys.{largest_first, ceiling_only, stayers};
 ghost use Rattle.std.proofs.Common.{rules};
 
 use crate::rule::Rule;
-
-/// No span is longer, in units.
-const LONGEST_SPAN: u64 = 1 << 54;
+use rows::limits::LONGEST_SPAN;
 
 /// The most time left goes first.
 #[derive(Clone, Copy)]
