@@ -1,7 +1,6 @@
 -- A task's first release past a point, and its next one.
-use Rattle.std.proofs.Common.{◌≡◌, ℕ, ◌+◌, ◌-◌, ◌*◌, ◌/◌, ◌<◌, ◌≤◌, Bool, true, false, eqb, ltb, leb, ◌⊎◌, List, [], ◌∷◌, Some, None, count_by, Option, sym, refl, ap, ◌∙◌, inl, inr, ⊎_elim, mul-le-mul_right, mod-lt, add-mul, one-mul, div-add-mod', arith, ltb-false, ltb-true, lt-ltb, eqb-true, leb-true}
-use Rattle.std.proofs.lemmas.Bool.{and_parts, or_left}
-use Rattle.std.proofs.lemmas.Bool.Decides.{nat_tests}
+use Rattle.std.proofs.Common.{◌≡◌, ℕ, ◌+◌, ◌-◌, ◌*◌, ◌/◌, ◌<◌, ◌≤◌, Bool, true, false, eqb, ltb, leb, List, [], ◌∷◌, Some, None, count_by, Option, sym, refl, ap, ◌∙◌, ⊎_elim, mul-le-mul_right, mod-lt, add-mul, one-mul, div-add-mod', arith, ltb-true, lt-ltb, eqb-true, leb-true}
+use Rattle.std.proofs.lemmas.Bool.{cases_lt, and_parts, or_left, ne_eqb}
 use Rattle.rows.specs.declared.memory.Task.{Task}
 use Rattle.rows.specs.Tests.{rising}
 use Rattle.model.specs.Members.{In, here, there}
@@ -11,7 +10,7 @@ use Rattle.model.proofs.Tags.{rises, above}
 use Rattle.ahead.specs.declared.release.Release.{Release}
 use Rattle.ahead.specs.declared.release.Due.{Due}
 use Rattle.ahead.specs.Ahead.{timely, release_of, sooner, past}
-use Rattle.ahead.specs.Waiting.{release, first_due, FirstDue}
+use Rattle.ahead.specs.Waiting.{release, later, first_due, FirstDue}
 use Rattle.ahead.proofs.Sooner.{past_sooner, sooner_other, sooner_same}
 
 -- tasks of one tag are one
@@ -21,9 +20,6 @@ same_task (s ∷ ts) h t u here here e = refl
 same_task (s ∷ ts) h t u here (there j) e = absurd (omega (arith, above (λ x. x.tag) t.tag ts h u j))
 same_task (s ∷ ts) h t u (there i) here e = absurd (omega (arith, above (λ x. x.tag) u.tag ts h t i))
 same_task (s ∷ ts) h t u (there i) (there j) e = same_task ts (rises s.tag (tags ts) h) t u i j e
-
-ne_false : (a b : ℕ) → (a ≡ b → ⊥) → eqb a b ≡ false
-ne_false a b n = grind (arith, nat_tests)
 
 few : (b : Bool) → bit b ≤ 1
 few true = omega arith
@@ -36,20 +32,13 @@ tag_once (t ∷ ts) h g = by (eqb t.tag g) refl (tag_once ts (rises t.tag (tags 
   where
     by : (b : Bool) → eqb t.tag g ≡ b → count_by (λ (x : Task). eqb x.tag g) ts ≤ 1 → count_by (λ (x : Task). eqb x.tag g) (t ∷ ts) ≤ 1
     by true e rest =
-        let none = count_none (λ (x : Task). eqb x.tag g) ts (λ u i. ne_false u.tag g (λ q. omega (arith, above (λ x. x.tag) t.tag ts h u i, eqb-true t.tag g e))) in
+        let none = count_none (λ (x : Task). eqb x.tag g) ts (λ u i. ne_eqb u.tag g (λ q. omega (arith, above (λ x. x.tag) t.tag ts h u i, eqb-true t.tag g e))) in
         omega (arith, count_cons (λ (x : Task). eqb x.tag g) t ts, none, few (eqb t.tag g))
     by false e rest = omega (arith, count_cons (λ (x : Task). eqb x.tag g) t ts, ap bit e)
 
 -- more periods, later
 further : (j k p : ℕ) → j * p < k * p → (j + 1) * p ≤ k * p
-further j k p h = ⊎_elim (λ (l : j + 1 ≤ k). mul-le-mul_right p l) (λ (l : k ≤ j). absurd (omega (arith, mul-le-mul_right p l))) (either j k)
-  where
-    either : (j k : ℕ) → (j + 1 ≤ k) ⊎ (k ≤ j)
-    either j k = by (ltb j k) refl
-      where
-        by : (b : Bool) → ltb j k ≡ b → (j + 1 ≤ k) ⊎ (k ≤ j)
-        by true e = inl (omega (arith, ltb-true j k e))
-        by false e = inr (ltb-false j k e)
+further j k p h = ⊎_elim (λ (l : j < k). let next : j + 1 ≤ k = omega arith in mul-le-mul_right p next) (λ (l : k ≤ j). absurd (omega (arith, mul-le-mul_right p l))) (cases_lt j k)
 
 -- the first release after a tick
 pub first_after : (tick : ℕ) (t : Task) → timely tick t ≡ true → FirstDue tick None t (first_due tick t)
@@ -73,14 +62,23 @@ first_after tick t ok =
       first = λ k h. let l = ltb-true tick (r + k * p) h in let f = further (a / p) k p (omega arith) in omega arith;
     }
 
+-- it is within a period of the tick
+pub first_near : (tick : ℕ) (t : Task) → timely tick t ≡ true → next_release tick t ≤ tick + t.period
+first_near tick t ok =
+    let r = t.release in
+    let p = t.period in
+    let a = tick - r in
+    let le : r ≤ tick = leb-true r tick (and_parts (ltb 0 p) (leb r tick) ok).1 in
+    let cut = div-add-mod' a p in
+    let one = add-mul (a / p) 1 p in
+    let more = one-mul p in
+    omega arith
+
 -- both are the first, and so at one tick
 pub same_tick : (tick : ℕ) (p : Option Release) (t : Task) (d e : Due) → FirstDue tick p t d → FirstDue tick p t e → d.tick ≡ e.tick
 same_tick tick p t d e f g =
     let as-release : (x : Due) (h : FirstDue tick p t x) → past tick p (release_of t h.turns) ≡ true = λ x h. ap (past tick p) (λ i. record { tick = sym h.at i; tag = sym h.tag i }) ∙ h.after in
     omega (arith, f.first g.turns (as-release e g), g.first f.turns (as-release d f), f.at, g.at)
-
-abbrev pub later : Due → Due
-later x = record { tick = x.tick + x.period; tag = x.tag; period = x.period }
 
 -- the next release of the task
 pub first_later : (tick : ℕ) (p : Option Release) (t : Task) (x : Due) → 0 < t.period → FirstDue tick p t x → FirstDue tick (Some (release x)) t (later x)

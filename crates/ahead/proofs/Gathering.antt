@@ -1,13 +1,10 @@
 -- The queue after one task more.
-use Rattle.std.proofs.Common.{◌≡◌, ℕ, zero, suc, ◌+◌, ◌^◌, ◌<◌, ◌≤◌, Bool, true, false, cond, List, [], ◌∷◌, ◌++◌, map, length, get_or, take, Ok, Err, Result, sym, refl, ap, ◌∙◌, subst, arith, MatchResult}
+use Rattle.std.proofs.Common.{◌≡◌, ℕ, ◌+◌, ◌^◌, ◌<◌, ◌≤◌, Bool, true, List, [], ◌∷◌, ◌++◌, map, length, get_or, take, Result, sym, refl, ap, ◌∙◌, subst, arith}
 use Rattle.std.specs.List.Sorted.{IsPermutation}
 use Rattle.std.specs.List.{AllByRecursion}
 use Rattle.std.proofs.lemmas.List.{length-map, length-take-le, take_more, map-append}
 use Rattle.std.proofs.lemmas.List.Sorted.{IsPermutation-refl, IsPermutation-cons, IsPermutation-trans, IsPermutation-to_front, length_permutation}
-use Rattle.std.proofs.lemmas.Bool.{and_parts}
 use Rattle.rows.specs.declared.refusal.Refusal.{Refusal}
-use Rattle.rows.specs.declared.refusal.Refusal.TheVariants.{QueueFull}
-use Rattle.rows.specs.Tests.{all}
 use Rattle.queue.specs.declared.Queue.{Queue}
 use Rattle.queue.specs.Held.{held, Inserted}
 use Rattle.queue.specs.Order.{Heaped}
@@ -19,17 +16,6 @@ use Rattle.ahead.specs.Waiting.{compared, by_tick}
 pub none_held : (hs : List Due) → length hs ≡ 0 → IsPermutation [] hs × Heaped by_tick hs × AllByRecursion (λ d. d.tick ≤ 2 ^ 33) hs
 none_held [] e = (IsPermutation-refl [], heap_none by_tick [] refl, tt)
 none_held (h ∷ hs) e = absurd (omega arith)
-
-pub all_at : {X : Type 0} (p : X → Bool) (xs : List X) (i : ℕ) (d : X) → i < length xs → all p xs ≡ true → p (get_or xs i d) ≡ true
-all_at p [] i d l h = absurd (omega arith)
-all_at p (x ∷ xs) zero d l h = (and_parts (p x) (all p xs) h).0
-all_at p (x ∷ xs) (suc i) d l h = all_at p xs i d (omega arith) (and_parts (p x) (all p xs) h).1
-
--- there was room, and so it was put in
-pub put_in : (b : Bool) (r : Result (Unit {0}) Refusal) (A : Type 0) (B : Refusal → Type 0) → b ≡ false → r ≡ cond b (Err QueueFull) (Ok tt) → MatchResult r (λ _. A) B → A
-put_in true r A B f e c = absurd (let z : ◌≡◌ {A = ℕ} 0 1 = cc in omega arith)
-put_in false (Ok u) A B f e c = c
-put_in false (Err k) A B f e c = absurd (let z : ◌≡◌ {A = ℕ} 0 1 = cc in omega arith)
 
 module _ {X : Type 0} (f : X → Due) (xs : List X) (i : ℕ) (d : X) (in' : i < length xs) (q q' : Queue Due) (was : IsPermutation (map f (take i xs)) (held q)) where
   pub held_long : length (held q) ≡ i

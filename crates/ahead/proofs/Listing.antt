@@ -1,11 +1,10 @@
 -- One release more is listed, and its task's next one waits.
 use Rattle.std.proofs.Common.{◌≡◌, ℕ, ◌+◌, ◌<◌, ◌≤◌, Bool, true, false, not, ◌&&◌, ◌||◌, eqb, ◌⊎◌, List, [], ◌∷◌, map, Some, None, count_by, Option, sym, refl, ap, ◌∙◌, subst, inl, inr, ⊎_elim, true≢false, arith, ltb-true, eq-eqb, eqb-true}
-use borrow.Author.Tests.{eqb-false}
 use Rattle.std.specs.List.Sorted.{IsPermutation}
 use Rattle.std.specs.List.{AllByRecursion}
 use Rattle.std.proofs.ByRecursion.{All-map, All-weaker, all_shuffled}
 use Rattle.std.proofs.lemmas.List.Sorted.{IsPermutation-sym, sum_by-IsPermutation}
-use Rattle.std.proofs.lemmas.Bool.{and_parts, and_from}
+use Rattle.std.proofs.lemmas.Bool.{and_parts, and_from, or_right, false_from_ne_true, not_from_false, not-true, eqb-false}
 use Rattle.rows.specs.declared.memory.Task.{Task}
 use Rattle.rows.specs.Tests.{rising, all}
 use Rattle.queue.specs.Order.{before, First}
@@ -15,9 +14,9 @@ use Rattle.model.proofs.Counts.{bit, count_cons, count_le, all_in, in_all}
 use Rattle.ahead.specs.declared.release.Release.{Release}
 use Rattle.ahead.specs.declared.release.Due.{Due}
 use Rattle.ahead.specs.Ahead.{timely, release_of, sooner, past, Next}
-use Rattle.ahead.specs.Waiting.{by_tick, first_due, release, FirstDue, Table, Waiting}
+use Rattle.ahead.specs.Waiting.{by_tick, first_due, release, later, FirstDue, Table, Waiting}
 use Rattle.ahead.proofs.Sooner.{not_sooner, not_sooner_later}
-use Rattle.ahead.proofs.Firsts.{same_task, tag_once, first_after, same_tick, later, first_later, first_other}
+use Rattle.ahead.proofs.Firsts.{same_task, tag_once, first_after, same_tick, first_later, first_other}
 
 module _ {X : Type 0} where
   both : (P Q R : X → Type 0) → ((x : X) → P x → Q x → R x) → (xs : List X) → AllByRecursion P xs → AllByRecursion Q xs → AllByRecursion R xs
@@ -26,11 +25,7 @@ module _ {X : Type 0} where
 
   none_pass : (p : X → Bool) (xs : List X) → count_by p xs ≤ 0 → AllByRecursion (λ x. p x ≡ false) xs
   none_pass p [] h = tt
-  none_pass p (x ∷ xs) h = (by (p x) refl, none_pass p xs (omega (arith, count_cons p x xs)))
-    where
-      by : (b : Bool) → p x ≡ b → b ≡ false
-      by true e = absurd (omega (arith, count_cons p x xs, ap bit e))
-      by false e = refl
+  none_pass p (x ∷ xs) h = (false_from_ne_true (p x) (λ e. omega (arith, count_cons p x xs, ap bit e)), none_pass p xs (omega (arith, count_cons p x xs)))
 
   map_at : {Y : Type 0} (P : Y → Type 0) (f : X → Y) (xs : List X) (x : X) → AllByRecursion P (map f xs) → In x xs → P (f x)
   map_at P f [] x a i = elim i [ ]
@@ -58,13 +53,6 @@ waiting_first tick ts hs up ok moved = record {
   once = λ g. omega (arith, sum_by-IsPermutation (λ (d : Due). bit (eqb d.tag g)) _ hs moved, count_map (λ (d : Due). eqb d.tag g) (first_due tick) ts, tag_once ts up g);
 }
 
-not_false : (b : Bool) → b ≡ false → not b ≡ true
-not_false b e = ap not e
-
-was_false : (b : Bool) → not b ≡ true → b ≡ false
-was_false true e = sym e
-was_false false e = refl
-
 module _ (ts : List Task) (table : Table ts) (tick : ℕ) (p : Option Release) (hs : List Due) (was : Waiting ts tick p hs) (x : Due) (on_top : First by_tick x hs) (t₀ : Task) (in₀ : In t₀ ts) (first₀ : FirstDue tick p t₀ x) where
   ahead_of : AllByRecursion (λ d. sooner (release d) (release x) ≡ false) hs
   ahead_of = All-weaker (λ d. before by_tick d x ≡ false) (λ d. sooner (release d) (release x) ≡ false) (λ d. not_sooner d x) hs on_top
@@ -78,11 +66,11 @@ module _ (ts : List Task) (table : Table ts) (tick : ℕ) (p : Option Release) (
         let t = by-task.0 in
         let k = by-task.1 in
         let y-is = by-task.3 in
-        let found = was.some t by-task.2 (λ d. not (sooner (release d) (release x))) (All-weaker _ (λ d. not (sooner (release d) (release x)) ≡ true) (λ d. not_false (sooner (release d) (release x))) hs ahead_of) in
+        let found = was.some t by-task.2 (λ d. not (sooner (release d) (release x))) (All-weaker _ (λ d. not (sooner (release d) (release x)) ≡ true) (λ d. not_from_false (sooner (release d) (release x))) hs ahead_of) in
         let d = found.0 in
         let f = found.1 in
         let le = f.first k (ap (past tick p) (sym y-is) ∙ past-p) in
-        ap (λ z. sooner z (release x)) y-is ∙ not_sooner_later (release d) (release x) (release_of t k) (was_false _ found.2) le f.tag;
+        ap (λ z. sooner z (release x)) y-is ∙ not_sooner_later (release d) (release x) (release_of t k) (not-true _ found.2) le f.tag;
   }
 
   abbrev like : Due → Bool
@@ -111,11 +99,7 @@ module _ (ts : List Task) (table : Table ts) (tick : ℕ) (p : Option Release) (
     counted q = sym (count_cons q x hs') ∙ sum_by-IsPermutation (λ d. bit (q d)) _ (x ∷ hs') moved ∙ count_cons q (later x) hs
 
     unlike_later : like (later x) ≡ false
-    unlike_later = by (like (later x)) refl
-      where
-        by : (b : Bool) → like (later x) ≡ b → b ≡ false
-        by true e = absurd (omega (arith, eqb-true (x.tick + x.period) x.tick (and_parts _ _ e).1, pos, first₀.period))
-        by false e = refl
+    unlike_later = false_from_ne_true (like (later x)) (λ e. omega (arith, eqb-true (x.tick + x.period) x.tick (and_parts _ _ e).1, pos, first₀.period))
 
     like_itself : like x ≡ true
     like_itself = and_from _ _ (eq-eqb x.tag x.tag refl) (eq-eqb x.tick x.tick refl)
@@ -137,18 +121,14 @@ module _ (ts : List Task) (table : Table ts) (tick : ℕ) (p : Option Release) (
         or_second true b h e = absurd (true≢false e)
         or_second false b h e = h
 
-        or_one : (a b : Bool) → b ≡ true → (a || b) ≡ true
-        or_one true b h = refl
-        or_one false b h = h
-
         some_more : (t : Task) → In t ts → (P : Due → Bool) → AllByRecursion (λ d. P d ≡ true) hs' → (d : Due) × FirstDue tick (Some (release x)) t d × (P d ≡ true)
         some_more t i P a = by (eqb d.tag x.tag) refl
           where
             wide : AllByRecursion (λ d. (like d || P d) ≡ true) (later x ∷ hs)
-            wide = all_shuffled _ (x ∷ hs') _ (IsPermutation-sym _ _ moved) (ap (λ b. b || P x) like_itself, All-weaker (λ d. P d ≡ true) (λ d. (like d || P d) ≡ true) (λ d. or_one (like d) (P d)) hs' a)
+            wide = all_shuffled _ (x ∷ hs') _ (IsPermutation-sym _ _ moved) (ap (λ b. b || P x) like_itself, All-weaker (λ d. P d ≡ true) (λ d. (like d || P d) ≡ true) (λ d. or_right (like d) (P d)) hs' a)
 
             found : (d : Due) × FirstDue tick p t d × (((like d || P d) && not (sooner (release d) (release x))) ≡ true)
-            found = was.some t i (λ d. (like d || P d) && not (sooner (release d) (release x))) (both _ _ _ (λ d q n. and_from _ _ q (not_false _ n)) hs wide.1 ahead_of)
+            found = was.some t i (λ d. (like d || P d) && not (sooner (release d) (release x))) (both _ _ _ (λ d q n. and_from _ _ q (not_from_false _ n)) hs wide.1 ahead_of)
 
             d : Due
             d = found.0
@@ -159,4 +139,4 @@ module _ (ts : List Task) (table : Table ts) (tick : ℕ) (p : Option Release) (
                 (later x, subst (λ u. FirstDue tick (Some (release x)) u (later x)) same (first_later tick p t₀ x pos first₀), or_second _ _ wide.0 unlike_later)
             by false e =
                 let parts = and_parts _ _ found.2 in
-                (found.0, first_other tick p t found.0 x found.1 first₀.after (was_false _ parts.1) (eqb-false _ _ e), or_second _ _ parts.0 (ap (λ b. b && eqb found.0.tick x.tick) e))
+                (found.0, first_other tick p t found.0 x found.1 first₀.after (not-true _ parts.1) (eqb-false _ _ e), or_second _ _ parts.0 (ap (λ b. b && eqb found.0.tick x.tick) e))

@@ -1,5 +1,5 @@
 -- The list and the queue after one place more.
-use Rattle.std.proofs.Common.{◌≡◌, ℕ, zero, suc, ◌+◌, ◌*◌, ◌^◌, ◌<◌, ◌≤◌, List, [], ◌∷◌, length, get_or, set, Some, None, Option, sym, refl, ap, ◌∙◌, subst, ⊎_elim, add-one, arith, MatchOption}
+use Rattle.std.proofs.Common.{◌≡◌, ℕ, zero, suc, ◌+◌, ◌*◌, ◌^◌, ◌<◌, ◌≤◌, List, [], ◌∷◌, length, get_or, set, Some, sym, refl, ap, ◌∙◌, subst, ⊎_elim, add-one, arith}
 use Rattle.std.specs.List.Sorted.{IsPermutation}
 use Rattle.std.specs.List.{AllByRecursion}
 use Rattle.std.proofs.Permutation.{which}
@@ -12,17 +12,11 @@ use Rattle.model.specs.Members.{In}
 use Rattle.ahead.specs.declared.release.Release.{Release}
 use Rattle.ahead.specs.declared.release.Due.{Due}
 use Rattle.ahead.specs.Ahead.{Next, previous, blank}
-use Rattle.ahead.specs.Waiting.{by_tick, release, FirstDue, Table, Waiting}
-use Rattle.ahead.proofs.Firsts.{later}
+use Rattle.ahead.specs.Waiting.{by_tick, release, later, FirstDue, Table, Waiting}
 use Rattle.ahead.proofs.Listing.{next_is, waiting_more}
 
--- what is said of a Some
-pub at_some : {X : Type 0} (r : Option X) (x : X) (A : Type 0) (B : X → Type 0) → r ≡ Some x → MatchOption r A B → B x
-at_some None x A B e c = absurd (let z : ◌≡◌ {A = ℕ} 0 1 = cc in omega arith)
-at_some (Some y) x A B e c = let same : y ≡ x = cc in subst B same c
-
 top_of : (P : Due → Type 0) (hs : List Due) (x : Due) → first_of hs ≡ Some x → AllByRecursion P hs → P x
-top_of P [] x e a = absurd (let z : ◌≡◌ {A = ℕ} 0 1 = cc in omega arith)
+top_of P [] x e a = absurd (cc)
 top_of P (h ∷ hs) x e a = let same : h ≡ x = cc in subst P same a.0
 
 -- a write at i leaves what is listed before a place up to i

@@ -1,8 +1,8 @@
 -- The order of releases.
-use Rattle.std.proofs.Common.{◌≡◌, ℕ, ◌<◌, ◌≤◌, Bool, true, false, cond, ◌&&◌, ◌||◌, eqb, ltb, Some, None, Option, Ordering, Less, Equal, Greater, sym, refl, ap, ◌∙◌, arith}
-use Rattle.std.specs.Ordering.{is_lt, ordering_then}
+use Rattle.std.proofs.Common.{◌≡◌, ℕ, ◌<◌, ◌≤◌, Bool, true, false, ◌&&◌, ◌||◌, eqb, ltb, Some, None, Option, sym, refl, ap, ◌∙◌, arith}
 use Rattle.std.proofs.lemmas.Bool.Decides.{nat_tests}
 use Rattle.queue.specs.Order.{before}
+use Rattle.queue.proofs.Heap.{before_then}
 use Rattle.ahead.specs.declared.release.Release.{Release}
 use Rattle.ahead.specs.declared.release.Due.{Due}
 use Rattle.ahead.specs.Ahead.{sooner, past}
@@ -37,11 +37,6 @@ sooner_same x y h e = higher x.tick x.tag y.tick y.tag h e
 pub not_sooner_later : (d x y : Release) → sooner d x ≡ false → d.tick ≤ y.tick → d.tag ≡ y.tag → sooner y x ≡ false
 not_sooner_later d x y h l e = lower d.tick d.tag x.tick x.tag y.tick y.tag h l e
 
-isLt_then : (a b : Bool) (r : Ordering) → is_lt (ordering_then (cond a Less (cond b Equal Greater)) r) ≡ (a || (b && is_lt r))
-isLt_then true b r = refl
-isLt_then false true r = refl
-isLt_then false false r = refl
-
 weaker : (a b c d : Bool) → (a || (b && (c || d))) ≡ false → (a || (b && c)) ≡ false
 weaker true b c d h = h
 weaker false true true d h = h
@@ -50,4 +45,4 @@ weaker false false c d h = refl
 
 pub not_sooner : (x y : Due) → before by_tick x y ≡ false → sooner (release x) (release y) ≡ false
 not_sooner x y h = weaker (ltb x.tick y.tick) (eqb x.tick y.tick) (ltb x.tag y.tag) _
-    (sym (isLt_then (ltb x.tick y.tick) (eqb x.tick y.tick) _ ∙ ap (λ b. ltb x.tick y.tick || (eqb x.tick y.tick && b)) (isLt_then (ltb x.tag y.tag) (eqb x.tag y.tag) _)) ∙ h)
+    (sym (before_then (ltb x.tick y.tick) (eqb x.tick y.tick) _ ∙ ap (λ b. ltb x.tick y.tick || (eqb x.tick y.tick && b)) (before_then (ltb x.tag y.tag) (eqb x.tag y.tag) _)) ∙ h)

@@ -8,10 +8,7 @@ use Rattle.model.specs.Members.{In}
 use Rattle.model.specs.State.{unless}
 use Rattle.model.specs.Tables.{tags}
 use Rattle.ahead.specs.declared.release.Release.{Release}
-
--- a task that has a period, and was first released by the tick
-abbrev pub timely : ℕ → Task → Bool
-timely tick t = nat_lt 0 t.period && nat_le t.release tick
+pub use Rattle.rows.specs.Releases.{timely}
 
 -- places of a list at the most
 abbrev pub most_places : ℕ

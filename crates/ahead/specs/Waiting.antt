@@ -30,6 +30,10 @@ first_due tick t = record { tick = next_release tick t; tag = t.tag; period = t.
 abbrev pub release : Due → Release
 release d = record { tick = d.tick; tag = d.tag }
 
+-- the task's next one
+abbrev pub later : Due → Due
+later d = record { tick = d.tick + d.period; tag = d.tag; period = d.period }
+
 -- d is the task's first release past p
 pub record FirstDue (tick : ℕ) (p : Option Release) (t : Task) (d : Due) : Type 0 where
   pub tag : d.tag ≡ t.tag

@@ -7,10 +7,11 @@ ghost use Rattle.std.specs.Prelude.{◌≡◌, ℕ, ◌^◌, ◌<◌, ◌≤◌,
 ghost use Rattle.std.specs.List.Sorted.{IsPermutation};
 ghost use Rattle.std.specs.List.{AllByRecursion};
 ghost use Rattle.rows.specs.Tests.{all};
+ghost use Rattle.rows.specs.Releases.{timely};
 ghost use Rattle.rows.specs.declared.memory.Task.{Task as Row};
 ghost use Rattle.queue.specs.Held.{held};
 ghost use Rattle.queue.specs.Order.{Heaped};
-ghost use Rattle.ahead.specs.Ahead.{timely, answer_ahead, Ahead};
+ghost use Rattle.ahead.specs.Ahead.{answer_ahead, Ahead};
 ghost use Rattle.ahead.specs.Waiting.{by_tick, first_due, Table, Waiting};
 
 use crate::release::{Due, Release};
@@ -55,12 +56,7 @@ pub fn fill_ahead(
 fn are_timely(rows: &[Task], tick: u32) -> bool
     ensures { result ≡ all (timely tick) rows.now }
 {
-    for task in rows {
-        if task.period == 0 || task.release > tick {
-            return false;
-        }
-    }
-    true
+    rows.iter().all(|task| task.next_release(tick).is_some())
 }
 
 // Puts each task's first release after the tick into the empty queue.
@@ -73,21 +69,7 @@ fn gather(queue: &mut Queue<'_, Due>, rows: &[Task], tick: u32)
     ensures near { AllByRecursion (λ d. d.tick ≤ 2 ^ 33) (held queue.new) }
 {
     for task in rows {
-        let _ = queue.insert(due(task, tick));
-    }
-}
-
-// A task's first release after the tick.
-fn due(task: &Task, tick: u32) -> Due
-    requires { timely tick task.now ≡ true }
-    ensures value { result ≡ first_due tick task.now }
-    ensures near { result.tick ≤ 2 ^ 33 }
-{
-    let periods = ((tick - task.release) / task.period) as u64 + 1;
-    Due {
-        tick: task.release as u64 + periods * task.period as u64,
-        tag: task.tag,
-        period: task.period,
+        let _ = queue.insert(Due::first(task, tick));
     }
 }
 
@@ -102,14 +84,7 @@ fn fill(queue: &mut Queue<'_, Due>, places: &mut [Release])
         let Some(first) = queue.first() else {
             return;
         };
-        *place = Release {
-            tick: first.tick,
-            tag: first.tag,
-        };
-        let _ = queue.replace_first(Due {
-            tick: first.tick + first.period as u64,
-            tag: first.tag,
-            period: first.period,
-        });
+        *place = first.into();
+        let _ = queue.replace_first(first.later());
     }
 }

@@ -1,10 +1,11 @@
 -- One token more, and the first m of the active ones are kept again.
-use Rattle.std.proofs.Common.{◌≡◌, ℕ, ◌+◌, ◌<◌, ◌≤◌, min, Bool, true, false, cond, not, ◌&&◌, eqb, ltb, List, [], ◌∷◌, ◌++◌, length, Some, None, count_by, Option, sym, refl, ap, ◌∙◌, true≢false, arith, le-ltb, lt-ltb, eq-eqb, eqb-true, MatchOption}
-use borrow.Author.Tests.{eqb-false}
+use Rattle.std.proofs.Common.{◌≡◌, ℕ, ◌+◌, ◌<◌, ◌≤◌, min, Bool, true, false, cond, not, ◌&&◌, eqb, ltb, List, [], ◌∷◌, ◌++◌, length, Some, None, count_by, Option, sym, refl, ap, ◌∙◌, arith, le-ltb, lt-ltb, eq-eqb, eqb-true}
 use Rattle.std.specs.declared.cmp.Reverse.{Reverse}
+use Rattle.std.specs.Option.{unwrap_or}
 use Rattle.std.specs.List.Sorted.{IsPermutation}
 use Rattle.std.proofs.lemmas.List.Sorted.{sum_by-IsPermutation, length_permutation}
 use Rattle.std.proofs.lemmas.List.Sums.{sum_by_push, count_by-le-length}
+use Rattle.std.proofs.lemmas.Bool.{and_parts, not-true, not-false, eqb-false}
 use Rattle.rows.specs.declared.memory.Token.{Token}
 use Rattle.queue.specs.Held.{first_of}
 use Rattle.queue.specs.Order.{Heaped}
@@ -16,53 +17,45 @@ use Rattle.choosing.specs.Entries.{entry_of, earlier, up_to}
 use Rattle.choosing.specs.Keeping.{last_first, top, last_kept, kept_before, active_before, KeepsFirst, Picks}
 use Rattle.choosing.proofs.Earlier.{under, over, Closes, top_closes, all_before, not_all_before}
 
-both : (a b : Bool) → (a && b) ≡ true → (a ≡ true) × (b ≡ true)
-both true b e = (refl, e)
-both false b e = absurd (true≢false (sym e))
-
-negated : (a : Bool) → not a ≡ true → a ≡ false
-negated true e = sym e
-negated false e = refl
-
 few : (b : Bool) → bit b ≤ 1
 few true = omega arith
 few false = omega arith
 
 empty : (hs : List (Reverse Entry)) → first_of hs ≡ None → length hs ≡ 0
 empty [] e = refl
-empty (h ∷ hs) e = absurd (let z : ◌≡◌ {A = ℕ} 0 1 = cc in omega arith)
-
-pub no_elements : (hs : List (Reverse Entry)) → length hs ≡ 0 → hs ≡ []
-no_elements [] e = refl
-no_elements (h ∷ hs) e = absurd (omega arith)
+empty (h ∷ hs) e = absurd (cc)
 
 -- a last one is that on top of a full queue
 full_top : (m : ℕ) (hs : List (Reverse Entry)) (w : Entry) → last_kept m hs ≡ Some w → (length hs ≡ m) × (first_of hs ≡ Some (record { 0 = w }))
 full_top m hs w e = by (eqb (length hs) m) refl (first_of hs) refl e
   where
     by : (b : Bool) → eqb (length hs) m ≡ b → (f : Option (Reverse Entry)) → first_of hs ≡ f → cond b (top f) None ≡ Some w → (length hs ≡ m) × (first_of hs ≡ Some (record { 0 = w }))
-    by true p None q r = absurd (let z : ◌≡◌ {A = ℕ} 0 1 = cc in omega arith)
+    by true p None q r = absurd (cc)
     by true p (Some h) q r = (eqb-true _ _ p, let same : h.0 ≡ w = cc in q ∙ (λ i. Some (record { 0 = same i })))
-    by false p f q r = absurd (let z : ◌≡◌ {A = ℕ} 0 1 = cc in omega arith)
+    by false p f q r = absurd (cc)
 
 pub top_there : (m : ℕ) (hs : List (Reverse Entry)) (w : Entry) → last_kept m hs ≡ Some w → first_of hs ≡ Some (record { 0 = w })
 top_there m hs w e = (full_top m hs w e).1
 
 -- a full queue has a last one
-pub last_of_full : (m : ℕ) (hs : List (Reverse Entry)) (r other : Entry) → length hs ≡ m → 0 < m → MatchOption (top (first_of hs)) (r ≡ other) (λ w. r ≡ w) → last_kept m hs ≡ Some r
+pub last_of_full : (m : ℕ) (hs : List (Reverse Entry)) (r other : Entry) → length hs ≡ m → 0 < m → r ≡ unwrap_or (top (first_of hs)) other → last_kept m hs ≡ Some r
 last_of_full m [] r other full some told = absurd (omega arith)
 last_of_full m (h ∷ hs) r other full some told = ap (λ b. cond b (Some h.0) None) (eq-eqb (length (h ∷ hs)) m full) ∙ ap Some (sym told)
 
 pub not_none : (m : ℕ) (hs : List (Reverse Entry)) → length hs ≡ m → 0 < m → last_kept m hs ≡ None → ⊥
 not_none m [] full some e = omega arith
-not_none m (h ∷ hs) full some e = let z : ◌≡◌ {A = ℕ} 0 1 = cc (ap (λ b. cond b (Some h.0) None) (eq-eqb (length (h ∷ hs)) m full)) in omega arith
+not_none m (h ∷ hs) full some e = cc (ap (λ b. cond b (Some h.0) None) (eq-eqb (length (h ∷ hs)) m full))
 
 pub some_full : (m : ℕ) (hs : List (Reverse Entry)) (w : Entry) → last_kept m hs ≡ Some w → (length hs ≡ m) × (0 < m)
 some_full m hs w e = let told = full_top m hs w e in (told.0, by hs told.0 told.1)
   where
     by : (l : List (Reverse Entry)) → length l ≡ m → first_of l ≡ Some (record { 0 = w }) → 0 < m
-    by [] p q = absurd (let z : ◌≡◌ {A = ℕ} 0 1 = cc in omega arith)
+    by [] p q = absurd (cc)
     by (h ∷ l) p q = omega arith
+
+-- for a place past the end
+abbrev pub blank : Token
+blank = record { tag = 0; left = 0; processor = 0 }
 
 module _ (m : ℕ) (key : Key) (span : ℕ) where
   -- nothing is kept of no tokens
@@ -140,20 +133,16 @@ module _ (m : ℕ) (key : Key) (span : ℕ) where
       comes w old hs' heap is_last is-top in_front moved =
           let told = full_top m hs w is_last in
           let same : old ≡ record { 0 = w } = cc told.1 in
-          let parts = both (active t) (not (earlier w e)) in_front in
-          let before : earlier old.0 e ≡ false = ap (λ h. earlier h.0 e) same ∙ negated _ parts.1 in
+          let parts = and_parts (active t) (not (earlier w e)) in_front in
+          let before : earlier old.0 e ≡ false = ap (λ h. earlier h.0 e) same ∙ not-true _ parts.1 in
           came_for parts.0 old hs' told.0 (top_closes hs old heap is-top) before moved
 
       -- it is not, and stays out
       pub stays : (w : Entry) → Heaped last_first hs → last_kept m hs ≡ Some w → (active t && not (earlier w e)) ≡ false → KeepsFirst m key span more hs
       stays w heap is_last behind = split (active t) refl behind
         where
-          turn : (a : Bool) → not a ≡ false → a ≡ true
-          turn true r = refl
-          turn false r = absurd (true≢false r)
-
           split : (a : Bool) → active t ≡ a → (a && not (earlier w e)) ≡ false → KeepsFirst m key span more hs
-          split true p u = let told = full_top m hs w is_last in stayed p w told.0 (top_closes hs (record { 0 = w }) heap told.1) (turn (earlier w e) u)
+          split true p u = let told = full_top m hs w is_last in stayed p w told.0 (top_closes hs (record { 0 = w }) heap told.1) (not-false (earlier w e) u)
           split false p u = passed p
 
   -- all tokens have come: those up to the last one kept are the chosen ones
@@ -171,4 +160,4 @@ module _ (m : ℕ) (key : Key) (span : ℕ) where
             after false r = lt-ltb _ m (omega (arith, kept.before x, eqb-true (length hs) m p, not_all_before hs w x q r))
 
     pub picks : Picks m key span ts (last_kept m hs)
-    picks x = ap (λ b. active x && b) (cut (entry_of key span x) (count_le (λ y. active y && earlier (entry_of key span y) (entry_of key span x)) active ts (λ y _ h. (both (active y) _ h).0)))
+    picks x = ap (λ b. active x && b) (cut (entry_of key span x) (count_le (λ y. active y && earlier (entry_of key span y) (entry_of key span x)) active ts (λ y _ h. (and_parts (active y) _ h).0)))

@@ -11,14 +11,10 @@ use Rattle.ahead.proofs.Gathering.{none_refused}
 use Rattle.ahead.proofs.Listing.{table_from, waiting_first}
 use Rattle.ahead.proofs.fill_ahead.Goals as goal
 
-pub fill-requires : goal.fill-requires
-fill-requires c =
+pub fill-requires-clause-some : goal.fill-requires-clause-some
+fill-requires-clause-some c =
     let rows = c.args.rows.now in
-    record {
-      some = omega (arith, length_permutation _ _ c.gather.ensures.items, length-map rows (first_due c.args.tick), false-eqb (length rows) 0 c.if-is_empty.ensures);
-      near = c.gather.ensures.near;
-      few = omega arith;
-    }
+    omega (arith, length_permutation _ _ c.gather.ensures.items, length-map rows (first_due c.args.tick), false-eqb (length rows) 0 c.if-is_empty.ensures)
 
 pub returns : goal.returns
 returns c =

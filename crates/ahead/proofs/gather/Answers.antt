@@ -1,12 +1,16 @@
 use Rattle.std.proofs.Common.{map, length, refl, ◌∙◌, subst, arith, ne_eqb}
 use Rattle.std.specs.List.Sorted.{IsPermutation}
 use Rattle.std.proofs.lemmas.List.{take_all}
+use Rattle.std.proofs.lemmas.Bool.{cond-false}
+use Rattle.std.proofs.lemmas.Result.{MatchResult-at_ok}
 use Rattle.std.proofs.ByRecursion.{all_shuffled}
+use Rattle.std.proofs.lemmas.List.Recursion.{and_at}
 use Rattle.rows.specs.declared.memory.Task.{Task}
+use Rattle.rows.specs.Tests.{all}
 use Rattle.queue.specs.Held.{held, Inserted}
 use Rattle.ahead.specs.Ahead.{timely}
 use Rattle.ahead.specs.Waiting.{compared, by_tick, first_due}
-use Rattle.ahead.proofs.Gathering.{none_held, all_at, put_in, held_long, gathered}
+use Rattle.ahead.proofs.Gathering.{none_held, held_long, gathered}
 use Rattle.ahead.proofs.gather.Goals as goal
 
 abbrev none : Task
@@ -15,8 +19,8 @@ none = record { tag = 0; execution = 0; period = 0; release = 0 }
 pub loop-task-init : goal.loop-task-init
 loop-task-init c = let r = none_held (held c.args.queue.now) c.requires.empty in (refl, r.0, r.1, r.2)
 
-pub due-requires : goal.due-requires
-due-requires c = all_at (timely c.args.tick) c.args.rows.now c.loop-task.task-index none (omega arith) c.requires.timely
+pub first-requires : goal.first-requires
+first-requires c = and_at (all (timely c.args.tick)) (timely c.args.tick) refl (λ _ _. refl) c.args.rows.now c.loop-task.task-index none (omega arith) c.requires.timely
 
 pub loop-task-preserved : goal.loop-task-preserved
 loop-task-preserved c =
@@ -27,19 +31,16 @@ loop-task-preserved c =
     let f = first_due c.args.tick in
     let rows = c.args.rows.now in
     let long = held_long f rows i none (omega arith) q q' l.invariant.1 in
-    let put = put_in _ _ _ _ (ne_eqb (length (held q)) (length q.memory.now) (omega (arith, long, l.invariant.0, c.requires.room))) c.insert.ensures.answer c.insert.ensures.after in
-    let put' = subst (λ d. Inserted compared q d q') c.due.ensures.value put in (
+    let room = ne_eqb (length (held q)) (length q.memory.now) (omega (arith, long, l.invariant.0, c.requires.room)) in
+    let put = MatchResult-at_ok _ _ tt (c.insert.ensures.answer ∙ cond-false _ _ _ room) c.insert.ensures.after in
+    let put' = subst (λ d. Inserted compared q d q') c.first.ensures.value put in (
       put.size ∙ l.invariant.0,
       gathered f rows i none (omega arith) q q' l.invariant.1 put',
       put.order by_tick l.invariant.2,
-      all_shuffled _ _ (held q') put.items (c.due.ensures.near, l.invariant.3),
+      all_shuffled _ _ (held q') put.items (omega arith, l.invariant.3),
     )
 
-pub returns : goal.returns
-returns c =
+pub returns-clause-items : goal.returns-clause-items
+returns-clause-items c =
     let l = c.loop-task in
-    record {
-      items = subst (λ ts. IsPermutation (map (first_due c.args.tick) ts) (held l.queue)) (take_all l.task-index c.args.rows.now (omega arith)) l.invariant.1;
-      order = l.invariant.2;
-      near = l.invariant.3;
-    }
+    subst (λ ts. IsPermutation (map (first_due c.args.tick) ts) (held l.queue)) (take_all l.task-index c.args.rows.now (omega arith)) l.invariant.1

@@ -1,5 +1,7 @@
 use Rattle.std.proofs.Common.{◌≡◌, ◌+◌, List, [], ◌∷◌, ◌++◌, length, get_or, take, sym, ap, ◌∙◌, subst, append_assoc, arith}
 use Rattle.std.specs.List.Sorted.{IsPermutation}
+use Rattle.std.specs.Option.{unwrap_or}
+use Rattle.std.proofs.lemmas.Option.{MatchOption-at_some}
 use Rattle.std.proofs.lemmas.List.{take_more, take_all}
 use Rattle.std.proofs.lemmas.List.Sorted.{length_permutation}
 use Rattle.std.specs.declared.cmp.Reverse.{Reverse}
@@ -7,21 +9,17 @@ use Rattle.rows.specs.declared.memory.Token.{Token}
 use Rattle.queue.specs.Held.{held}
 use Rattle.choosing.specs.declared.entry.Entry.{Entry}
 use Rattle.choosing.specs.Keeping.{last_first, KeepsFirst}
-use Rattle.choosing.proofs.Firsts.{comes, stays, some_full, last_of_full, top_there}
-use Rattle.choosing.proofs.Taking.{at_some}
-use Rattle.choosing.proofs.improve.Goals as goal
-use Rattle.choosing.proofs.improve.Goals.{then-is_up_to, else-is_up_to}
-
-abbrev blank : Token
-blank = record { tag = 0; left = 0; processor = 0 }
+use Rattle.choosing.proofs.Firsts.{blank, comes, stays, some_full, last_of_full, top_there}
+use Rattle.choosing.proofs.ranking.Ranking.improve.Goals as goal
+use Rattle.choosing.proofs.ranking.Ranking.improve.Goals.{then-is_up_to, else-is_up_to}
 
 pub loop-token-preserved : goal.loop-token-preserved
 loop-token-preserved g c =
     let l = c.loop-token in
     let i = l.token-index in
     let m = length c.args.best.now.memory.now in
-    let key = g.R.Rule.ranks c.args.rule.now in
-    let span = c.args.span in
+    let key = g.R.Rule.ranks c.args.self.now.rule.now in
+    let span = c.args.self.now.span in
     let ts = c.args.tokens.now in
     let t = get_or ts i blank in
     let hs = held l.best in
@@ -33,23 +31,19 @@ loop-token-preserved g c =
           let hs' = held w.replace_first.new.self in
           let old : Reverse Entry = record { 0 = l.last } in
           let is-top = top_there m hs l.last is_last in
-          let put = at_some _ old _ _ (w.replace_first.ensures.answer ∙ is-top) w.replace_first.ensures.after in
-          let moved = subst (λ e. IsPermutation (record { 0 = e } ∷ hs) (old ∷ hs')) w.of.ensures put.items in
+          let put = MatchOption-at_some _ _ old (w.replace_first.ensures.answer ∙ is-top) w.replace_first.ensures.after in
+          let moved = subst (λ e. IsPermutation (record { 0 = e } ∷ hs) (old ∷ hs')) w.entry.ensures put.items in
           rw (w.best-is, w.last-is) (
             put.order last_first heap,
-            last_of_full m hs' w.top_or-last.result l.last (omega (arith, length_permutation _ _ moved, full.0)) full.1 w.top_or-last.ensures,
+            last_of_full m hs' _ l.last (omega (arith, length_permutation _ _ moved, full.0)) full.1 (w.unwrap_or-last.ensures ∙ ap (λ t. unwrap_or t l.last) w.top.ensures),
             λ seen kept. subst (λ ss. KeepsFirst m key span ss hs') (one_more seen) (comes m key span (seen ++ take i ts) t hs (l.invariant.2 seen kept) l.last old hs' heap is_last is-top (sym w.if-is_up_to.ensures) moved),
           )
       | else-is_up_to w ↦
           rw (w.best-is, w.last-is) (heap, is_last, λ seen kept. subst (λ ss. KeepsFirst m key span ss hs) (one_more seen) (stays m key span (seen ++ take i ts) t hs (l.invariant.2 seen kept) l.last heap is_last (sym w.if-is_up_to.ensures)))
     ]
 
-pub returns : goal.returns
-returns g c =
+pub returns-clause-kept : goal.returns-clause-kept
+returns-clause-kept g c = λ seen kept.
     let l = c.loop-token in
-    let m = length c.args.best.now.memory.now in
-    record {
-      order = l.invariant.0;
-      last = l.invariant.1;
-      kept = λ seen kept. subst (λ ss. KeepsFirst m (g.R.Rule.ranks c.args.rule.now) c.args.span (seen ++ ss) (held l.best)) (take_all l.token-index c.args.tokens.now (omega arith)) (l.invariant.2 seen kept);
-    }
+    let me = c.args.self.now in
+    subst (λ ss. KeepsFirst (length c.args.best.now.memory.now) (g.R.Rule.ranks me.rule.now) me.span (seen ++ ss) (held l.best)) (take_all l.token-index c.args.tokens.now (omega arith)) (l.invariant.2 seen kept)
