@@ -1,5 +1,5 @@
 -- A file that is written again record by record.
-use Rattle.std.proofs.Common.{◌≡◌, ℕ, ◌+◌, ◌<◌, ◌≤◌, true, false, cond, leb, List, ◌++◌, length, take, drop, Some, None, Ok, Err, Option, sym, ap, ◌∙◌, arith, take-add}
+use Rattle.std.proofs.Common.{◌≡◌, ℕ, ◌+◌, ◌<◌, ◌≤◌, cond, List, ◌++◌, length, take, drop, None, Ok, Err, Option, sym, ap, ◌∙◌, arith, take-add}
 use Rattle.std.proofs.lemmas.List.{take_at, take_all, drop_at, length-take-le}
 use Rattle.std.proofs.lemmas.Slice.{drop-append-drop}
 use Rattle.std.proofs.lemmas.Bool.Decides.{nat_tests}
@@ -7,21 +7,21 @@ use Rattle.rows.specs.declared.refusal.Refusal.{Refusal}
 use Rattle.rows.specs.declared.refusal.Refusal.TheVariants.{BufferShort}
 use Rattle.plan_file.specs.declared.record.RecordHead.{RecordHead}
 use Rattle.plan_file.specs.Records.{Segment, record_size, record_bytes, segment_at}
-use Rattle.plan_file.specs.Faults.{unless, or_else, answered}
+use Rattle.plan_file.specs.Faults.{answered}
 use Rattle.plan_file.specs.Heads.{segment, head_at}
 use Rattle.plan_file.specs.Writing.{header_fault, header_bytes, write_fault}
-use Rattle.plan_file.specs.Reading.{next_answer, takes}
+use Rattle.plan_file.specs.Reading.{takes}
 use Rattle.plan_file.specs.Opening.{open_fault, file_processors, file_scale}
 use Rattle.plan_file.specs.Files.{file_fault, rewrite_fault}
 use Rattle.plan_file.specs.RoundTrip.{Below}
 use Rattle.plan_file.proofs.Fault.{fault_is}
 use Rattle.plan_file.proofs.Undo.{read_writes, below_drop}
-use Rattle.plan_file.proofs.ReadOn.{Took, took_on, of_file}
+use Rattle.plan_file.proofs.ReadOn.{Took, of_file}
 use Rattle.plan_file.proofs.WholeFile.{header_redo}
 
 -- where there is no fault, none is answered
 pub no_fault : {X : Type 0} (f : Option Refusal) (x : X) (e : Refusal) → f ≡ None → Err e ≡ answered f x → ⊥
-no_fault f x e n h = let s = fault_is f x e h in let z : ◌≡◌ {A = ℕ} 0 1 = cc in omega arith
+no_fault f x e n h = let s = fault_is f x e h in cc
 
 -- a header that opens may be written where the file has room, and is that of the file
 pub header_fine : (file : List ℕ) (room p q : ℕ) → Below 256 file → open_fault file ≡ None → length file ≤ room → p ≡ file_processors file → q ≡ file_scale file →
@@ -37,17 +37,7 @@ header_fine file room p q h o l ep eq =
 more_room : (m : ℕ) (s : Segment) (room : ℕ) → write_fault m s (record_size m) ≡ None → record_size m ≤ room → write_fault m s room ≡ None
 more_room m s room f l = grind (arith, nat_tests)
 
--- a reader over the file's bytes took the record at `place`
-pub reader_took : (file bytes : List ℕ) (place after n : ℕ) (v : RecordHead) → bytes ≡ file → n ≡ file_processors file →
-    Ok (Some v) ≡ next_answer n (drop place bytes) → after ≡ place + cond (takes n (drop place bytes)) (record_size n) 0 →
-    Took (file_processors file) file place after v
-reader_took file bytes place after n v b e a p =
-    let m = file_processors file in
-    took_on m file place after v
-    (a ∙ of_file (λ k x. next_answer k (drop place x)) m n file bytes b e)
-    (p ∙ of_file (λ k x. place + cond (takes k (drop place x)) (record_size k) 0) m n file bytes b e)
-
--- it may be written where there is room for it, and gives its bytes again
+-- a record that a reader took may be written where there is room for it, and gives its bytes again
 pub taken_writes : (file bytes places old : List ℕ) (place after n p room : ℕ) (v : RecordHead) → Below 256 file → bytes ≡ file → n ≡ file_processors file → p ≡ file_processors file →
     Took (file_processors file) file place after v →
     places ≡ cond (takes n (drop place bytes)) (segment_at n (drop place bytes)).row old → record_size (file_processors file) ≤ room →
@@ -56,7 +46,7 @@ taken_writes file bytes places old place after n p room v h b e pe t f l =
     let m = file_processors file in
     let bs = drop place file in
     let g : places ≡ (segment_at m bs).row =
-    f ∙ of_file (λ k x. cond (takes k (drop place x)) (segment_at k (drop place x)).row old) m n file bytes b e
+    f ∙ of_file (λ k x. cond (takes k (drop place x)) (segment_at k (drop place x)).row old) b e
     ∙ ap (λ d. cond d (segment_at m bs).row old) t.taken in
     let s : segment v places ≡ segment_at m bs = ap (λ y. segment y places) t.head ∙ ap (λ y. segment (head_at bs) y) g in
     let w = read_writes m bs (below_drop place file 256 h) t.taken in (
@@ -91,17 +81,9 @@ copied_all file before start out h at e l k s o =
     let d : drop at start ≡ drop (length file) before = ap (λ n. drop n start) e ∙ ap (drop (length file)) s ∙ drop-append-drop 10 before h (length file) l k in
     o ∙ ap (λ x. x ++ drop at start) t ∙ ap (λ x. file ++ x) d
 
-pub rewrite_bad : (file : List ℕ) (room : ℕ) (e : Refusal) → file_fault file ≡ Some e → Err e ≡ answered (rewrite_fault file room) (length file)
-rewrite_bad file room e f = sym (ap (λ g. answered (or_else g (unless (leb (length file) room) BufferShort None)) (length file)) f)
-
+-- a file without a fault is short of room, or there is room for it
 pub rewrite_short : (file : List ℕ) (room : ℕ) → file_fault file ≡ None → room < length file → Err BufferShort ≡ answered (rewrite_fault file room) (length file)
-rewrite_short file room f l =
-    let t : leb (length file) room ≡ false = grind (arith, nat_tests) in
-    sym (ap (λ g. answered (or_else g (unless (leb (length file) room) BufferShort None)) (length file)) f
-    ∙ ap (λ b. answered (unless b BufferShort None) (length file)) t)
+rewrite_short file room f l = grind (arith, nat_tests)
 
 pub rewrite_fine : (file : List ℕ) (room : ℕ) → file_fault file ≡ None → length file ≤ room → Ok (length file) ≡ answered (rewrite_fault file room) (length file)
-rewrite_fine file room f l =
-    let t : leb (length file) room ≡ true = grind (arith, nat_tests) in
-    sym (ap (λ g. answered (or_else g (unless (leb (length file) room) BufferShort None)) (length file)) f
-    ∙ ap (λ b. answered (unless b BufferShort None) (length file)) t)
+rewrite_fine file room f l = grind (arith, nat_tests)

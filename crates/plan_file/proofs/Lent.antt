@@ -14,30 +14,30 @@ write_two p b n d x y e h =
     let t : set ((p ++ x ∷ []) ++ get_or b (n + 1) d ∷ drop (n + 2) b) (n + 1) y ≡ (p ++ x ∷ []) ++ y ∷ drop (n + 2) b = set_at (p ++ x ∷ []) (get_or b (n + 1) d) _ y (n + 1) s in
     rw (drop_more b n d l₁, m, set_at p (get_or b n d) _ x n e) (simp append_assoc at t)
 
+none_behind : {X : Type 0} (xs : List X) (n : ℕ) → drop (length xs - n) (drop n xs) ≡ []
+none_behind xs n = drop_all (length xs - n) (drop n xs) (simp length-drop (omega arith))
+
 -- the part of e behind its front h was lent, and t written there
 pub lent_behind : {X : Type 0} (h b e t ys : List X) (n j : ℕ) → length h ≡ n → e ≡ h ++ drop n b →
     ys ≡ t ++ drop j (take (length e - n) (drop n e)) → put_mid n (length e - n) e ys ≡ h ++ (t ++ drop (n + j) b)
 lent_behind h b e t ys n j l p q =
     let f : take n e ≡ h = ap (take n) p ∙ take_at h (drop n b) n l in
     let g : drop n e ≡ drop n b = ap (drop n) p ∙ drop_at h (drop n b) n l in
-    let z : drop (length e - n) (drop n e) ≡ [] = drop_all (length e - n) (drop n e) (simp length-drop (omega arith)) in
     let y : ys ≡ t ++ drop (n + j) b = q ∙ ap (λ u. t ++ drop j u) (take_rest e n ∙ g) ∙ ap (λ u. t ++ u) (drop-drop j n b) in
-    rw (f, z, y) (simp append-nil)
+    rw (f, none_behind e n, y) (simp append-nil)
 
 -- the part of xs behind its first n was lent, and r written there
 pub lent_written : {X : Type 0} (xs ys r : List X) (n j : ℕ) → ys ≡ r ++ drop j (take (length xs - n) (drop n xs)) →
     put_mid n (length xs - n) xs ys ≡ (take n xs ++ r) ++ drop (n + j) xs
 lent_written xs ys r n j q =
-    let z : drop (length xs - n) (drop n xs) ≡ [] = drop_all (length xs - n) (drop n xs) (simp length-drop (omega arith)) in
     let y : ys ≡ r ++ drop (n + j) xs = q ∙ ap (λ u. r ++ drop j u) (take_rest xs n) ∙ ap (λ u. r ++ u) (drop-drop j n xs) in
-    rw (z, y) (simp (append-nil, append_assoc))
+    rw (none_behind xs n, y) (simp (append-nil, append_assoc))
 
 -- the part of xs behind its first n was lent, and left as it was
 pub lent_same : {X : Type 0} (xs ys : List X) (n : ℕ) → ys ≡ take (length xs - n) (drop n xs) → put_mid n (length xs - n) xs ys ≡ xs
 lent_same xs ys n q =
-    let z : drop (length xs - n) (drop n xs) ≡ [] = drop_all (length xs - n) (drop n xs) (simp length-drop (omega arith)) in
     let y : ys ≡ drop n xs = q ∙ take_rest xs n in
-    rw (z, y) (simp append-nil (take-append-drop n xs))
+    rw (none_behind xs n, y) (simp append-nil (take-append-drop n xs))
 
 pub length_rest : {X : Type 0} (xs : List X) (n : ℕ) → length (take (length xs - n) (drop n xs)) ≡ length xs - n
 length_rest xs n = ap length (take_rest xs n) ∙ length-drop n xs

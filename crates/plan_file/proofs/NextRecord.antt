@@ -2,7 +2,7 @@
 use Rattle.std.proofs.Common.{◌≡◌, ℕ, ◌<◌, ◌≤◌, Bool, true, false, cond, List, length, Some, None, Ok, Err, Result, arith}
 use Rattle.std.proofs.lemmas.Bool.Decides.{nat_tests}
 use Rattle.rows.specs.declared.refusal.Refusal.{Refusal}
-use Rattle.rows.specs.declared.refusal.Refusal.TheVariants.{Processors, RecordShort, TagTwice}
+use Rattle.rows.specs.declared.refusal.Refusal.TheVariants.{RecordShort, TagTwice}
 use Rattle.rows.specs.Tests.{within, distinct}
 use Rattle.plan_file.specs.declared.record.RecordHead.{RecordHead}
 use Rattle.plan_file.specs.Records.{record_size, segment_at}
@@ -12,9 +12,6 @@ use Rattle.plan_file.specs.Reading.{read_fault, next_answer, takes}
 
 pub none_left : (m : ℕ) (bs : List ℕ) → length bs ≡ 0 → (next_answer m bs ≡ Ok None) × (takes m bs ≡ false)
 none_left m bs h = grind (arith, nat_tests)
-
-pub fault_range : (m : ℕ) (bs : List ℕ) → 0 < length bs → within 1 16 m ≡ false → (next_answer m bs ≡ Err Processors) × (takes m bs ≡ false)
-fault_range m bs h g = grind (arith, nat_tests)
 
 -- a call that answered a record took it
 pub some_took : (m : ℕ) (bs : List ℕ) (v : RecordHead) → Ok (Some v) ≡ next_answer m bs → (takes m bs ≡ true) × (0 < length bs) × (v ≡ head_at bs)
@@ -38,7 +35,7 @@ fill_refused d f h = grind (arith, nat_tests)
 pub fill_done : (d : Bool) → ◌≡◌ {A = Result (Unit {0}) Refusal} (Ok tt) (cond d (Ok tt) (Err TagTwice)) → d ≡ true
 fill_done d h = grind (arith, nat_tests)
 
-module _ (m : ℕ) (bs : List ℕ) (some : 1 ≤ m) (few : m ≤ 16) where
+module _ (m : ℕ) (bs : List ℕ) (few : within 1 16 m ≡ true) where
   pub fault_short : 0 < length bs → length bs < record_size m → (next_answer m bs ≡ Err RecordShort) × (takes m bs ≡ false)
   fault_short h g = grind (arith, nat_tests)
 

@@ -1,6 +1,7 @@
 -- The tags of a record, one after the other.
 use Rattle.std.proofs.Common.{◌≡◌, ℕ, zero, suc, ◌+◌, ◌-◌, ◌*◌, ◌/◌, ◌%◌, ◌<◌, ◌≤◌, List, [], ◌∷◌, ◌++◌, length, get_or, take, drop, set, replicate, refl, ap, ◌∙◌, mul-add, add-one, arith}
-use Rattle.std.proofs.lemmas.List.{append_assoc, set_at, take_more, length-take-le, get_or-drop}
+use Rattle.std.proofs.lemmas.List.{append_assoc, set_at, take_more, length-take-le, drop-drop, get_or-drop, get_or-take}
+use Rattle.std.specs.Simd.{first_chunks}
 use Rattle.plan_file.specs.Records.{tag_bytes, tags_at}
 use Rattle.plan_file.proofs.Lent.{write_two}
 
@@ -35,6 +36,22 @@ tags_at_suc (suc i) bs =
 -- one more tag read
 pub tags_at_more : (i : ℕ) (bs : List ℕ) → tags_at (i + 1) bs ≡ tags_at i bs ++ (get_or bs (2 * i) 0 * 256 + get_or bs (2 * i + 1) 0) ∷ []
 tags_at_more i bs = ap (λ n. tags_at n bs) (add-one i) ∙ tags_at_suc i bs
+
+-- the pair at index i
+pair_at : (n i : ℕ) (bs p : List ℕ) → i < n → get_or (first_chunks 2 n bs) i p ≡ take 2 (drop (2 * i) bs)
+pair_at zero i bs p h = absurd (omega arith)
+pair_at (suc n) zero bs p h = refl
+pair_at (suc n) (suc i) bs p h = pair_at n i (drop 2 bs) p (omega arith) ∙ ap (take 2) (drop-drop (2 * i) 2 bs ∙ ap (λ k. drop k bs) (omega arith))
+
+-- the bytes of the pair at index i of the first m
+pub pair_bytes : (n m i : ℕ) (bs p : List ℕ) → i < n → i < m →
+    (get_or (get_or (first_chunks 2 n (take (2 * m) bs)) i p) 0 0 ≡ get_or bs (2 * i) 0)
+    × (get_or (get_or (first_chunks 2 n (take (2 * m) bs)) i p) 1 0 ≡ get_or bs (2 * i + 1) 0)
+pair_bytes n m i bs p h g =
+    let e = pair_at n i (take (2 * m) bs) p h in
+    let f : (k : ℕ) → k < 2 → get_or (take 2 (drop (2 * i) (take (2 * m) bs))) k 0 ≡ get_or bs (2 * i + k) 0 =
+    λ k l. get_or-take 2 (drop (2 * i) (take (2 * m) bs)) k 0 l ∙ get_or-drop (2 * i) (take (2 * m) bs) k 0 ∙ get_or-take (2 * m) bs (2 * i + k) 0 (omega arith) in
+    (ap (λ x. get_or x 0 0) e ∙ f 0 (omega arith) ∙ ap (λ k. get_or bs k 0) (omega arith), ap (λ x. get_or x 1 0) e ∙ f 1 (omega arith))
 
 -- the same, with zeros in the other places of a row
 pub tags_read : (i : ℕ) (bs : List ℕ) → i < 16 →

@@ -1,8 +1,10 @@
 -- Writing and reading a record undo each other.
-use Rattle.std.proofs.Common.{◌≡◌, ℕ, zero, suc, ◌+◌, ◌-◌, ◌*◌, ◌/◌, ◌%◌, ◌<◌, ◌≤◌, true, eqb, List, [], ◌∷◌, ◌++◌, length, get_or, take, drop, replicate, None, Ok, sym, refl, ap, ◌∙◌, arith, take-add}
-use Rattle.std.proofs.lemmas.List.{take-append-drop, length-append, length-replicate, length-take-le, length-drop, get_or-drop, take_at, drop_at, take_more}
+use Rattle.std.proofs.Common.{◌≡◌, ℕ, zero, suc, ◌+◌, ◌-◌, ◌*◌, ◌/◌, ◌%◌, ◌<◌, ◌≤◌, true, eqb, List, [], ◌∷◌, ◌++◌, length, get_or, take, drop, replicate, None, Ok, sym, refl, ap, ◌∙◌, arith, take-add, w64}
+use Rattle.std.proofs.lemmas.List.{take-append-drop, length-append, length-replicate, length-take-le, length-drop, get_or-drop, take_at, drop_at, take_more, get_or-take}
+use Rattle.std.proofs.lemmas.Nat.{be_bytes_8, from_be_bytes-to_be_bytes_8}
+use Rattle.std.specs.Int.{from_be_bytes}
 use Rattle.std.proofs.lemmas.Bool.Decides.{nat_tests}
-use Rattle.rows.specs.Tests.{distinct, all}
+use Rattle.rows.specs.Tests.{within, distinct, all}
 use Rattle.plan_file.specs.declared.record.RecordHead.{RecordHead}
 use Rattle.plan_file.specs.Bytes.{be64, first64}
 use Rattle.plan_file.specs.Records.{record_size, record_bytes, tag_bytes, tags_at, segment_at}
@@ -19,7 +21,7 @@ tags_undo (t ∷ ts) rest h =
     let e : (t / 256 % 256) * 256 + t % 256 ≡ t = omega arith in
     rw (e, tags_undo ts rest (λ i. h (suc i))) refl
 
-below_take : (m : ℕ) (ts : List ℕ) (b : ℕ) → Below b ts → Below b (take m ts)
+pub below_take : (m : ℕ) (ts : List ℕ) (b : ℕ) → Below b ts → Below b (take m ts)
 below_take zero ts b h i = omega (arith, h i)
 below_take (suc m) [] b h i = h i
 below_take (suc m) (t ∷ ts) b h zero = h 0
@@ -43,9 +45,6 @@ filled m ts l z =
     let r : drop m ts ≡ replicate (16 - m) 0 = zeros_replicate (drop m ts) z ∙ ap (λ n. replicate {A = ℕ} n 0) k in
     ap (λ u. take m ts ++ u) (sym r) ∙ take-append-drop m ts
 
-digits : (n : ℕ) (rest : List ℕ) → n < 18446744073709551616 → first64 (be64 n ++ rest) ≡ n
-digits n rest h = omega arith
-
 head_fine : (v : RecordHead) (bs : List ℕ) → head_at bs ≡ v → head_fault v ≡ None → Ok v ≡ answered (head_fault (head_at bs)) (head_at bs)
 head_fine v bs e f = sym (ap (λ w. answered (head_fault w) w) e ∙ ap (λ g. answered g v) f)
 
@@ -54,7 +53,7 @@ written_reads m s behind w =
     let f = w.faultless in
     let bs = record_bytes m s ++ behind in
     let ts = s.row in
-    let o : 1 ≤ m = grind (arith, nat_tests) in
+    let p : within 1 16 m ≡ true = grind (arith, nat_tests) in
     let a : m ≤ 16 = grind (arith, nat_tests) in
     let b : s.units < 18446744073709551616 = grind (arith, nat_tests) in
     let q : head_fault (head_of s) ≡ None = grind (arith, nat_tests) in
@@ -62,10 +61,10 @@ written_reads m s behind w =
     let k : length (take m ts) ≡ m = length-take-le m ts (omega (arith, w.places)) in
     let u : tags_at m (tag_bytes (take m ts) ++ behind) ≡ take m ts = rw k at (tags_undo (take m ts) behind (below_take m ts 65536 w.tags)) in
     let r : (segment_at m bs).row ≡ ts = ap (λ x. x ++ replicate (16 - m) 0) u ∙ filled m ts w.places z in
-    let n : first64 bs ≡ s.units = digits s.units (s.kind ∷ tag_bytes (take m ts) ++ behind) b in
+    let n : first64 bs ≡ s.units = from_be_bytes-to_be_bytes_8 s.units b in
     let e : head_at bs ≡ head_of s = rw n refl in
     let l : length (tag_bytes (take m ts) ++ behind) ≡ 2 * m + length behind = length-append (tag_bytes (take m ts)) behind ∙ ap (λ x. x + length behind) (length_tag_bytes (take m ts) ∙ ap (λ x. 2 * x) k) in
-    ((one_read m bs o a (head_of s) (omega arith) (head_fine (head_of s) bs e q) (ap distinct r ∙ w.apart)).0, rw (n, r) refl)
+    ((one_read m bs p (head_of s) (omega arith) (head_fine (head_of s) bs e q) (ap distinct r ∙ w.apart)).0, rw (n, r) refl)
 
 pub below_drop : (n : ℕ) (bs : List ℕ) (b : ℕ) → Below b bs → Below b (drop n bs)
 below_drop n bs b h i = rw (get_or-drop n bs i 0) (h (n + i))
@@ -84,24 +83,9 @@ tags_redo (suc m) bs h l =
 
 head_redo : (bs : List ℕ) → Below 256 bs → 9 ≤ length bs → be64 (first64 bs) ++ get_or bs 8 0 ∷ [] ≡ take 9 bs
 head_redo bs h l =
-    let h0 = h 0 in
-    let h1 = h 1 in
-    let h2 = h 2 in
-    let h3 = h 3 in
-    let h4 = h 4 in
-    let h5 = h 5 in
-    let h6 = h 6 in
-    let h7 = h 7 in
-    let d0 : first64 bs / 72057594037927936 % 256 ≡ get_or bs 0 0 = omega arith in
-    let d1 : first64 bs / 281474976710656 % 256 ≡ get_or bs 1 0 = omega arith in
-    let d2 : first64 bs / 1099511627776 % 256 ≡ get_or bs 2 0 = omega arith in
-    let d3 : first64 bs / 4294967296 % 256 ≡ get_or bs 3 0 = omega arith in
-    let d4 : first64 bs / 16777216 % 256 ≡ get_or bs 4 0 = omega arith in
-    let d5 : first64 bs / 65536 % 256 ≡ get_or bs 5 0 = omega arith in
-    let d6 : first64 bs / 256 % 256 ≡ get_or bs 6 0 = omega arith in
-    let d7 : first64 bs % 256 ≡ get_or bs 7 0 = omega arith in
-    let t : take 9 bs ≡ get_or bs 0 0 ∷ get_or bs 1 0 ∷ get_or bs 2 0 ∷ get_or bs 3 0 ∷ get_or bs 4 0 ∷ get_or bs 5 0 ∷ get_or bs 6 0 ∷ get_or bs 7 0 ∷ get_or bs 8 0 ∷ [] = simp (take_more bs 8 0 (omega arith), take_more bs 7 0 (omega arith), take_more bs 6 0 (omega arith), take_more bs 5 0 (omega arith), take_more bs 4 0 (omega arith), take_more bs 3 0 (omega arith), take_more bs 2 0 (omega arith), take_more bs 1 0 (omega arith), take_more bs 0 0 (omega arith)) in
-    rw (t, d0, d1, d2, d3, d4, d5, d6, d7) refl
+    let e : first64 bs ≡ from_be_bytes w64 (take 8 bs) = simp (get_or-take 8 bs 0 0 (omega arith), get_or-take 8 bs 1 0 (omega arith), get_or-take 8 bs 2 0 (omega arith), get_or-take 8 bs 3 0 (omega arith), get_or-take 8 bs 4 0 (omega arith), get_or-take 8 bs 5 0 (omega arith), get_or-take 8 bs 6 0 (omega arith), get_or-take 8 bs 7 0 (omega arith)) (omega arith) in
+    let d : be64 (first64 bs) ≡ take 8 bs = be_bytes_8 (take 8 bs) (first64 bs) (length-take-le 8 bs (omega arith)) (below_take 8 bs 256 h) e in
+    ap (λ x. x ++ get_or bs 8 0 ∷ []) d ∙ sym (take_more bs 8 0 (omega arith))
 
 below_tags : (m : ℕ) (bs : List ℕ) (n : ℕ) → Below 256 bs → Below 65536 (tags_at m bs ++ replicate n 0)
 below_tags zero bs zero h i = omega arith

@@ -1,9 +1,10 @@
 -- Writing and reading a whole file undo each other.
-use Rattle.std.proofs.Common.{◌≡◌, ℕ, zero, suc, ◌+◌, ◌*◌, ◌/◌, ◌%◌, ◌<◌, ◌≤◌, List, [], ◌∷◌, ◌++◌, length, get_or, take, drop, Some, None, Option, sym, refl, ap, ◌∙◌, arith}
-use native.Mathlib.Nat.{div-div-eq-div-mul}
-use Rattle.std.proofs.lemmas.List.{length-take-le, length-drop, drop_at, take-append-drop, take_more}
+use Rattle.std.proofs.Common.{◌≡◌, ℕ, zero, suc, ◌+◌, ◌*◌, ◌<◌, ◌≤◌, List, [], ◌∷◌, ◌++◌, length, get_or, take, drop, None, sym, refl, ap, ◌∙◌, arith, take-add, w32}
+use Rattle.std.proofs.lemmas.List.{length-take-le, length-drop, drop_at, take-append-drop, take_more, get_or-take, get_or-drop}
+use Rattle.std.proofs.lemmas.Nat.{be_bytes_4, from_be_bytes-to_be_bytes_4}
+use Rattle.std.specs.Int.{from_be_bytes}
+use Rattle.plan_file.specs.Bytes.{be32}
 use Rattle.std.proofs.lemmas.Bool.Decides.{nat_tests}
-use Rattle.rows.specs.declared.refusal.Refusal.{Refusal}
 use Rattle.plan_file.specs.Records.{Segment, record_size, record_bytes, records_bytes, segments_at}
 use Rattle.plan_file.specs.Faults.{or_else}
 use Rattle.plan_file.specs.Heads.{head_of}
@@ -12,8 +13,9 @@ use Rattle.plan_file.specs.Opening.{open_fault, file_processors, file_scale}
 use Rattle.plan_file.specs.Files.{file_bytes, records_in, records_fault, file_segments}
 use Rattle.plan_file.specs.RoundTrip.{Below, Writable, EachWritable, WrittenFileReads, ReadFileWrites}
 use Rattle.plan_file.proofs.Tags.{length_tag_bytes}
+use Rattle.plan_file.proofs.Fault.{both_none}
 use Rattle.plan_file.proofs.NextRecord.{some_took}
-use Rattle.plan_file.proofs.Undo.{written_reads, read_writes, below_drop}
+use Rattle.plan_file.proofs.Undo.{written_reads, read_writes, below_take, below_drop}
 use Rattle.plan_file.proofs.ReadOn.{records_none, records_more, faultless_takes}
 
 length_record : (m : ℕ) (s : Segment) → Writable m s → length (record_bytes m s) ≡ record_size m
@@ -44,17 +46,11 @@ records_read m (s ∷ ss) w =
           ∙ ap (λ x. s ∷ x) r.1,
     )
 
-scale_digits : (n : ℕ) → n < 4294967296 → (n / 16777216 % 256) * 16777216 + (n / 65536 % 256) * 65536 + (n / 256 % 256) * 256 + n % 256 ≡ n
-scale_digits n h =
-    let a : n / 65536 ≡ n / 256 / 256 = sym (div-div-eq-div-mul n 256 256) in
-    let b : n / 16777216 ≡ n / 65536 / 256 = sym (div-div-eq-div-mul n 65536 256) in
-    rw (b, a) (omega arith)
-
 pub written_file_reads : WrittenFileReads
 written_file_reads m scale ss h w =
     let file = file_bytes m scale ss in
     let a : scale < 4294967296 = grind (arith, nat_tests) in
-    let q : file_scale file ≡ scale = scale_digits scale a in
+    let q : file_scale file ≡ scale = from_be_bytes-to_be_bytes_4 scale a in
     let r = records_read m ss w in
     let o : open_fault file ≡ None = grind (arith, nat_tests) in
     (ap (λ f. or_else f (records_fault m (records_bytes m ss))) o ∙ r.0, refl, q, r.1)
@@ -63,10 +59,6 @@ pub header_redo : (file : List ℕ) → Below 256 file → open_fault file ≡ N
 header_redo file h o =
     let h3 = h 3 in
     let h4 = h 4 in
-    let h6 = h 6 in
-    let h7 = h 7 in
-    let h8 = h 8 in
-    let h9 = h 9 in
     let l : 10 ≤ length file = grind (arith, nat_tests) in
     let k0 : get_or file 0 0 ≡ 75 = grind (arith, nat_tests) in
     let k1 : get_or file 1 0 ≡ 80 = grind (arith, nat_tests) in
@@ -74,12 +66,10 @@ header_redo file h o =
     let v : get_or file 3 0 * 256 + get_or file 4 0 ≡ 1 = grind (arith, nat_tests) in
     let k3 : get_or file 3 0 ≡ 0 = omega arith in
     let k4 : get_or file 4 0 ≡ 1 = omega arith in
-    let d6 : file_scale file / 16777216 % 256 ≡ get_or file 6 0 = omega arith in
-    let d7 : file_scale file / 65536 % 256 ≡ get_or file 7 0 = omega arith in
-    let d8 : file_scale file / 256 % 256 ≡ get_or file 8 0 = omega arith in
-    let d9 : file_scale file % 256 ≡ get_or file 9 0 = omega arith in
-    let t : take 10 file ≡ get_or file 0 0 ∷ get_or file 1 0 ∷ get_or file 2 0 ∷ get_or file 3 0 ∷ get_or file 4 0 ∷ get_or file 5 0 ∷ get_or file 6 0 ∷ get_or file 7 0 ∷ get_or file 8 0 ∷ get_or file 9 0 ∷ [] = simp (take_more file 9 0 (omega arith), take_more file 8 0 (omega arith), take_more file 7 0 (omega arith), take_more file 6 0 (omega arith), take_more file 5 0 (omega arith), take_more file 4 0 (omega arith), take_more file 3 0 (omega arith), take_more file 2 0 (omega arith), take_more file 1 0 (omega arith), take_more file 0 0 (omega arith)) in
-    rw (t, k0, k1, k2, k3, k4, d6, d7, d8, d9) refl
+    let front : take 6 file ≡ get_or file 0 0 ∷ get_or file 1 0 ∷ get_or file 2 0 ∷ get_or file 3 0 ∷ get_or file 4 0 ∷ get_or file 5 0 ∷ [] = simp (take_more file 5 0 (omega arith), take_more file 4 0 (omega arith), take_more file 3 0 (omega arith), take_more file 2 0 (omega arith), take_more file 1 0 (omega arith), take_more file 0 0 (omega arith)) in
+    let four : file_scale file ≡ from_be_bytes w32 (take 4 (drop 6 file)) = simp (get_or-take 4 (drop 6 file) 0 0 (omega arith), get_or-take 4 (drop 6 file) 1 0 (omega arith), get_or-take 4 (drop 6 file) 2 0 (omega arith), get_or-take 4 (drop 6 file) 3 0 (omega arith), get_or-drop 6 file 0 0, get_or-drop 6 file 1 0, get_or-drop 6 file 2 0, get_or-drop 6 file 3 0) (omega arith) in
+    let scale : be32 (file_scale file) ≡ take 4 (drop 6 file) = be_bytes_4 (take 4 (drop 6 file)) (file_scale file) (length-take-le 4 (drop 6 file) (simp length-drop (omega arith))) (below_take 4 (drop 6 file) 256 (below_drop 6 file 256 h)) four in
+    rw (take-add 6 4 file, front, scale, k0, k1, k2, k3, k4) refl
 
 -- the segments of bytes that read to their end; n bounds their length
 records_redo : (m : ℕ) (n : ℕ) (bs : List ℕ) → length bs ≤ n → Below 256 bs → records_fault m bs ≡ None →
@@ -98,10 +88,6 @@ records_redo m (suc n) (b ∷ bs) l h f =
           ∙ ap (λ x. take (record_size m) (b ∷ bs) ++ x) r.1
           ∙ take-append-drop (record_size m) (b ∷ bs),
     )
-
-pub both_none : (f g : Option Refusal) → or_else f g ≡ None → (f ≡ None) × (g ≡ None)
-both_none None g h = (refl, h)
-both_none (Some f) g h = absurd (let z : ◌≡◌ {A = ℕ} 0 1 = cc in omega arith)
 
 pub read_file_writes : ReadFileWrites
 read_file_writes file h f =

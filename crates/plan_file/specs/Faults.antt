@@ -15,3 +15,8 @@ or_else (Some refusal) later = Some refusal
 abbrev pub answered : {X : Type 0} → Option Refusal → X → Result X Refusal
 answered None x = Ok x
 answered (Some refusal) x = Err refusal
+
+-- an answer with what is read of its value
+abbrev pub answer_map : {X Y : Type 0} → (X → Y) → Result X Refusal → Result Y Refusal
+answer_map f (Ok x) = Ok (f x)
+answer_map f (Err refusal) = Err refusal

@@ -2,6 +2,8 @@
 use Rattle.std.specs.Prelude.{ℕ, List, None, Option, slice_index}
 use Rattle.rows.specs.declared.refusal.Refusal.{Refusal}
 use Rattle.rows.specs.declared.refusal.Refusal.TheVariants.{Length, Kind}
+use Rattle.rows.specs.declared.event.Event.{Event}
+use Rattle.rows.specs.Kinds.{kind_number}
 use Rattle.rows.specs.Limits.{longest_span}
 use Rattle.rows.specs.Tests.{within}
 use Rattle.plan_file.specs.declared.record.RecordHead.{RecordHead}
@@ -23,3 +25,7 @@ head_at bs = record { length = first64 bs; kind = slice_index bs 8 }
 -- what is wrong with a length or a kind
 abbrev pub head_fault : RecordHead → Option Refusal
 head_fault head = unless (within 1 longest_span head.length) Length (unless (within 1 4 head.kind) Kind None)
+
+-- the head with which an event is written
+abbrev pub event_head : Event → RecordHead
+event_head event = record { length = event.length; kind = kind_number event.kind }

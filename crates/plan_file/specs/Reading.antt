@@ -1,13 +1,15 @@
 -- Reading the record with which the bytes that are left begin.
 use Rattle.std.specs.Prelude.{ℕ, Bool, cond, not, ◌&&◌, List, length, is_some, Some, None, Ok, Option, Result, ◌==◌, nat_le}
+use Rattle.std.specs.Option.{option_map}
+use Rattle.rows.specs.declared.event.Event.{Event}
 use Rattle.rows.specs.declared.refusal.Refusal.{Refusal}
 use Rattle.rows.specs.declared.refusal.Refusal.TheVariants.{Processors, RecordShort, TagTwice}
 use Rattle.rows.specs.Limits.{most_processors}
 use Rattle.rows.specs.Tests.{within, distinct}
 use Rattle.plan_file.specs.declared.record.RecordHead.{RecordHead}
 use Rattle.plan_file.specs.Records.{record_size, segment_at}
-use Rattle.plan_file.specs.Faults.{unless, or_else, answered}
-use Rattle.plan_file.specs.Heads.{head_at, head_fault}
+use Rattle.plan_file.specs.Faults.{unless, or_else, answered, answer_map}
+use Rattle.plan_file.specs.Heads.{head_at, head_fault, event_head}
 
 -- why no record can be read from the front of bytes
 abbrev pub read_fault : ℕ → List ℕ → Option Refusal
@@ -19,6 +21,10 @@ read_fault m bs =
 -- what reading the next record answers where these bytes are left: none where there is no byte
 abbrev pub next_answer : ℕ → List ℕ → Result (Option RecordHead) Refusal
 next_answer m bs = cond (length bs == 0) (Ok None) (answered (read_fault m bs) (Some (head_at bs)))
+
+-- what the reader answers, with the heads of its events
+abbrev pub in_heads : Result (Option Event) Refusal → Result (Option RecordHead) Refusal
+in_heads = answer_map (option_map event_head)
 
 -- whether it takes a record
 abbrev pub takes : ℕ → List ℕ → Bool

@@ -4,7 +4,7 @@ ghost use Rattle.plan_file.specs.Faults.{answered};
 ghost use Rattle.plan_file.specs.Opening.{open_fault, header_at};
 ghost use Rattle.plan_file.specs.Writing.{header_size, header_bytes, header_fault};
 
-use rows::limits::{LARGEST_SCALE, MOST_PROCESSORS};
+use rows::limits::{check_processors, check_scale};
 use rows::refusal::Refusal;
 
 /// Bytes before the first record.
@@ -26,12 +26,8 @@ pub fn write_header(plan: &mut [u8], processors: u8, scale: u32) -> Result<usize
     ensures answer { result ≡ answered (header_fault processors scale (length plan.old)) header_size }
     ensures bytes { plan.new ≡ (if is_ok result then header_bytes processors scale ++ drop header_size plan.old else plan.old) }
 {
-    if processors < 1 || processors > MOST_PROCESSORS {
-        return Err(Refusal::Processors);
-    }
-    if scale < 1 || scale > LARGEST_SCALE {
-        return Err(Refusal::Scale);
-    }
+    check_processors(processors)?;
+    check_scale(scale)?;
     if plan.len() < HEADER_SIZE {
         return Err(Refusal::BufferShort);
     }
@@ -46,27 +42,21 @@ pub fn write_header(plan: &mut [u8], processors: u8, scale: u32) -> Result<usize
 pub fn read_header(file: &[u8]) -> Result<Header, Refusal>
     ensures { result ≡ answered (open_fault file.now) (header_at file.now) }
 {
+    // Not shared with table files: what would be shared is a pattern with other letters and other refusals.
     if file.len() < HEADER_SIZE {
         return Err(Refusal::PlanShort);
     }
-    let [b'K', b'P', b'L', v1, v2, rest @ ..] = file else {
+    let [b'K', b'P', b'L', v1, v2, processors, q1, q2, q3, q4, ..] = file else {
         return Err(Refusal::Mark);
     };
     if u16::from_be_bytes([*v1, *v2]) != VERSION {
         return Err(Refusal::Version);
     }
-    let [processors, q1, q2, q3, q4, ..] = rest else {
-        return Err(Refusal::PlanShort);
-    };
-    let scale = u32::from_be_bytes([*q1, *q2, *q3, *q4]);
-    if *processors < 1 || *processors > MOST_PROCESSORS {
-        return Err(Refusal::Processors);
-    }
-    if scale < 1 || scale > LARGEST_SCALE {
-        return Err(Refusal::Scale);
-    }
-    Ok(Header {
+    let header = Header {
         processors: *processors,
-        scale,
-    })
+        scale: u32::from_be_bytes([*q1, *q2, *q3, *q4]),
+    };
+    check_processors(header.processors)?;
+    check_scale(header.scale)?;
+    Ok(header)
 }

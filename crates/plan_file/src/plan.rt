@@ -21,6 +21,7 @@ pub fn append_record(
     ensures answer { result ≡ answered (write_fault processors (segment head row.now.places) (length plan.old - at)) (at + record_size processors) }
     ensures bytes { plan.new ≡ (if is_ok result then take at plan.old ++ record_bytes processors (segment head row.now.places) ++ drop (at + record_size processors) plan.old else plan.old) }
 {
+    // The callers answer the place in the end, so a writer around it and the buffer would be made only to be taken apart.
     let from = at.min(plan.len());
     let size = write_record(&mut plan[from..], processors, head, row)?;
     Ok(from + size)

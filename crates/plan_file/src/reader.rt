@@ -1,28 +1,30 @@
 // Reading a plan file: opening it, and where the reader stands.
-ghost use Rattle.std.specs.Prelude.{◌≡◌, Some, None, MatchResult};
+ghost use Rattle.std.specs.Prelude.{◌≡◌, true, Some, None, MatchResult};
+ghost use Rattle.rows.specs.Limits.{most_processors};
+ghost use Rattle.rows.specs.Tests.{within};
 ghost use Rattle.plan_file.specs.Writing.{header_size};
-ghost use Rattle.plan_file.specs.Opening.{open_fault, file_processors, file_scale};
+ghost use Rattle.plan_file.specs.Opening.{open_fault, header_at};
 ghost use Rattle.plan_file.specs.RoundTrip.{WrittenReads, ReadWrites, WrittenFileReads, ReadFileWrites};
 
-use crate::header::{HEADER_SIZE, read_header};
+use crate::header::{HEADER_SIZE, Header, read_header};
 use rows::refusal::Refusal;
 
 mod next;
 
-/// Stands in the bytes of a plan file, at the place where the next record begins.
+/// Stands in the bytes of a plan file, at the place where the next record begins. The processors are 1 to 16.
 #[derive(Drop)]
 pub struct PlanReader<'a> {
     bytes: &'a [u8],
     place: usize,
-    processors: u8,
-    scale: u32,
+    header: Header,
+    ghost few: { within 1 most_processors header.processors ≡ true },
 }
 
 impl<'a> PlanReader<'a> {
     /// A reader at the first record of a plan file. Refuses other files, and numbers out of their limits.
     /// What it promises of records and files holds whatever is opened: writing and reading undo each other.
     pub fn open(bytes: &'a [u8]) -> Result<PlanReader<'a>, Refusal>
-        ensures opens { MatchResult result (λ reader. (open_fault bytes.now ≡ None) × (reader.bytes ≡ bytes.entry) × (reader.place ≡ header_size) × (reader.processors ≡ file_processors bytes.now) × (reader.scale ≡ file_scale bytes.now)) (λ e. open_fault bytes.now ≡ Some e) }
+        ensures opens { MatchResult result (λ reader. (open_fault bytes.now ≡ None) × (reader.bytes ≡ bytes.entry) × (reader.place ≡ header_size) × (reader.header ≡ header_at bytes.now)) (λ e. open_fault bytes.now ≡ Some e) }
         ensures records { WrittenReads × ReadWrites }
         ensures files { WrittenFileReads × ReadFileWrites }
     {
@@ -30,8 +32,7 @@ impl<'a> PlanReader<'a> {
         Ok(PlanReader {
             bytes,
             place: HEADER_SIZE,
-            processors: header.processors,
-            scale: header.scale,
+            header,
         })
     }
 
@@ -44,15 +45,15 @@ impl<'a> PlanReader<'a> {
 
     /// Processors of the file, and tags of each record.
     pub fn processors(&self) -> u8
-        ensures { result ≡ self.now.processors }
+        ensures { result ≡ self.now.header.processors }
     {
-        self.processors
+        self.header.processors
     }
 
     /// Units in a tick.
     pub fn scale(&self) -> u32
-        ensures { result ≡ self.now.scale }
+        ensures { result ≡ self.now.header.scale }
     {
-        self.scale
+        self.header.scale
     }
 }

@@ -4,11 +4,13 @@ ghost use Rattle.rows.specs.Tests.{all};
 ghost use Rattle.plan_file.specs.Bytes.{be64};
 ghost use Rattle.plan_file.specs.Records.{record_size, record_bytes, tag_bytes};
 ghost use Rattle.plan_file.specs.Faults.{answered};
-ghost use Rattle.plan_file.specs.Heads.{segment, head_fault};
+ghost use Rattle.plan_file.specs.Heads.{segment};
 ghost use Rattle.plan_file.specs.Writing.{write_fault};
 ghost use Rattle.plan_file.specs.RoundTrip.{ReadsAs};
 
-use rows::limits::{LONGEST_SPAN, MOST_PROCESSORS};
+use rows::event::Event;
+use rows::kind::Kind;
+use rows::limits::{LONGEST_SPAN, check_processors};
 use rows::refusal::Refusal;
 use rows::row::Row;
 
@@ -16,39 +18,61 @@ use rows::row::Row;
 #[derive(Clone, Copy, PartialEq, Eq, Debug)]
 pub struct RecordHead {
     pub length: u64,
+    // a number and no `Kind`: any may be asked to be written, and one that is none is refused
     pub kind: u8,
 }
 
-impl RecordHead {
-    /// Refuses a length or a kind that is out of its limits.
-    pub fn check(self) -> Result<(), Refusal>
-        ensures { result ≡ answered (head_fault self) tt }
-    {
-        if self.length < 1 || self.length > LONGEST_SPAN {
+impl From<Event> for RecordHead {
+    ghost use Rattle.plan_file.specs.Heads.{event_head};
+
+    ghost from_gives = { λ event head. head ≡ event_head event };
+
+    fn from(event: Event) -> RecordHead {
+        RecordHead {
+            length: event.length,
+            kind: u8::from(event.kind),
+        }
+    }
+}
+
+/// Refuses a length or a kind that is out of its limits.
+impl TryFrom<RecordHead> for Event {
+    type Error = Refusal;
+
+    ghost use Rattle.plan_file.specs.Faults.{answered, answer_map};
+    ghost use Rattle.plan_file.specs.Heads.{event_head, head_fault};
+
+    ghost try_from_gives = { λ head result. answer_map event_head result ≡ answered (head_fault head) head };
+
+    fn try_from(head: RecordHead) -> Result<Event, Refusal> {
+        if !(1..=LONGEST_SPAN).contains(&head.length) {
             return Err(Refusal::Length);
         }
-        if self.kind < 1 || self.kind > 4 {
-            return Err(Refusal::Kind);
-        }
-        Ok(())
+        Ok(Event {
+            length: head.length,
+            kind: Kind::try_from(head.kind)?,
+        })
     }
+}
+
+/// Bytes of a record with a tag for each of so many processors.
+pub fn record_size(processors: u8) -> usize
+    ensures { result ≡ record_size processors }
+{
+    9 + 2 * usize::from(processors)
 }
 
 fn all_zero(tags: &[u16]) -> bool
     ensures { result ≡ all (λ t. nat_eq t 0) tags.now }
 {
-    for t in tags {
-        if *t != 0 {
-            return false;
-        }
-    }
-    true
+    tags.iter().all(|tag| *tag == 0)
 }
 
 fn put_tags(buf: &mut [u8], tags: &[u16])
     requires { 2 * length tags.now ≤ length buf.old }
     ensures { buf.new ≡ tag_bytes tags.now ++ drop (2 * length tags.now) buf.old }
 {
+    // The places are counted: behind a loop over the chunks of `buf` a proof knows its length alone.
     for (i, tag) in tags.iter().enumerate() {
         let [high, low] = tag.to_be_bytes();
         buf[2 * i] = high;
@@ -80,15 +104,12 @@ pub fn put_record(buf: &mut [u8], head: RecordHead, tags: &[u16])
 fn check_record(processors: u8, head: RecordHead, row: &Row, room: usize) -> Result<(), Refusal>
     ensures { result ≡ answered (write_fault processors (segment head row.now.places) room) tt }
 {
-    if processors < 1 || processors > MOST_PROCESSORS {
-        return Err(Refusal::Processors);
-    }
-    head.check()?;
-    let m = usize::from(processors);
-    if !all_zero(&row.places()[m..]) {
+    check_processors(processors)?;
+    Event::try_from(head)?;
+    if !all_zero(&row.places()[usize::from(processors)..]) {
         return Err(Refusal::TagPastProcessors);
     }
-    if room < 9 + 2 * m {
+    if room < record_size(processors) {
         return Err(Refusal::BufferShort);
     }
     Ok(())
@@ -109,5 +130,5 @@ pub fn write_record(
     check_record(processors, head, row, buf.len())?;
     let m = usize::from(processors);
     put_record(buf, head, &row.places()[0..m]);
-    Ok(9 + 2 * m)
+    Ok(record_size(processors))
 }

@@ -6,6 +6,7 @@ ghost use Rattle.plan_file.specs.Files.{file_fault, file_records, rewrite_fault}
 use crate::header::write_header;
 use crate::plan::append_record;
 use crate::reader::PlanReader;
+use crate::record::RecordHead;
 use rows::refusal::Refusal;
 use rows::row::Row;
 
@@ -32,8 +33,8 @@ fn write_again(file: &[u8], out: &mut [u8]) -> Result<usize, Refusal>
     let processors = reader.processors();
     let mut at = write_header(out, processors, reader.scale())?;
     let mut row = Row::new();
-    while let Some(head) = reader.next_record(&mut row)? {
-        at = append_record(out, at, processors, head, &row)?;
+    while let Some(event) = reader.next_record(&mut row)? {
+        at = append_record(out, at, processors, RecordHead::from(event), &row)?;
     }
     Ok(at)
 }

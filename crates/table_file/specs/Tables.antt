@@ -1,5 +1,6 @@
 -- A table file: the letters KTB, the version (2 bytes), processors (1), scale (4), planes (2), the count of rows (2), and rows of tag (2), execution (4) and period (4).
-use Rattle.std.specs.Prelude.{ℕ, ◌+◌, ◌*◌, Bool, cond, ◌&&◌, List, length, Some, None, Option, ◌==◌, nat_le, slice_index}
+use Rattle.std.specs.Prelude.{ℕ, ◌+◌, ◌*◌, Bool, cond, ◌&&◌, List, map, length, Some, None, Option, ◌==◌, nat_le, slice_index}
+use Rattle.std.specs.List.{range_with_len}
 use Rattle.rows.specs.declared.refusal.Refusal.{Refusal}
 use Rattle.rows.specs.declared.refusal.Refusal.TheVariants.{TableShort, Mark, Version, TableLength, NoPlanes, TaskCount}
 use Rattle.rows.specs.Limits.{most_tasks}
@@ -41,15 +42,22 @@ table_fault bs =
     (unless (nat_le 1 (table_planes bs)) NoPlanes
     (unless (within 1 most_tasks (table_count bs)) TaskCount None)))))
 
+-- the row that begins at index i of bytes
+abbrev pub row_at : List ℕ → ℕ → TableRow
+row_at bs i = record { tag = at16 bs i; execution = at32 bs (i + 2); period = at32 bs (i + 6) }
+
 -- where row i begins, from 0
 abbrev pub table_row_place : ℕ → ℕ
 table_row_place i = table_header_size + table_row_size * i
 
 -- row i of a table
 abbrev pub table_row_at : List ℕ → ℕ → TableRow
-table_row_at bs i =
-    record { tag = at16 bs (table_row_place i); execution = at32 bs (table_row_place i + 2); period = at32 bs (table_row_place i + 6) }
+table_row_at bs i = row_at bs (table_row_place i)
 
 -- row i, if the bytes have so many
 abbrev pub table_row : List ℕ → ℕ → Option TableRow
 table_row bs i = cond (nat_le (table_row_place (i + 1)) (length bs)) (Some (table_row_at bs i)) None
+
+-- the rows of a table, in the order of the file
+abbrev pub table_rows : List ℕ → List TableRow
+table_rows bs = map (table_row_at bs) (range_with_len 0 (table_count bs))

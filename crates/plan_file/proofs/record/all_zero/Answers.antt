@@ -1,16 +1,12 @@
-use Rattle.std.proofs.Common.{eqb, arith}
-use Rattle.std.proofs.lemmas.List.{at_drop_more, at_drop_all}
-use Rattle.std.proofs.lemmas.Bool.Decides.{nat_tests}
+use Rattle.std.proofs.Common.{nat_eq, ◌&&◌, refl, rules, tests, ◌∙◌}
+use Rattle.std.specs.List.{list_all}
+use Rattle.std.proofs.lemmas.Iterator.{YieldsList-from_slice}
+use Rattle.std.proofs.lemmas.Iterator.Search.{all_from_yields_List}
+use Rattle.std.proofs.lemmas.List.Recursion.{same_from_clauses}
 use Rattle.rows.specs.Tests.{all}
 use Rattle.plan_file.proofs.record.all_zero.Goals as goal
 
-pub returns-then-t-ne0 : goal.returns-then-t-ne0
-returns-then-t-ne0 c =
-    let e = at_drop_more (all (λ t. eqb t 0)) c.args.tags.now c.loop-t.t-index 0 (omega arith) in grind (arith, nat_tests)
-
-pub loop-t-preserved : goal.loop-t-preserved
-loop-t-preserved c =
-    let e = at_drop_more (all (λ t. eqb t 0)) c.args.tags.now c.loop-t.t-index 0 (omega arith) in grind (arith, nat_tests)
-
 pub returns : goal.returns
-returns c = let e = at_drop_all (all (λ t. eqb t 0)) c.args.tags.now c.loop-t.t-index (omega arith) in grind (arith, nat_tests)
+returns c =
+    all_from_yields_List (λ t. nat_eq t 0) _ _ c.all.result c.all.ensures.ran (YieldsList-from_slice c.args.tags.now (cc)) (λ x b q k. search (rules, tests))
+    ∙ same_from_clauses (list_all (λ t. nat_eq t 0)) (all (λ t. nat_eq t 0)) (λ t b. nat_eq t 0 && b) refl (λ _ _. refl) (λ _ _. refl) c.args.tags.now

@@ -1,5 +1,4 @@
-use Rattle.std.proofs.Common.{◌≡◌, length, arith}
-use Rattle.std.proofs.lemmas.List.{take_all}
+use Rattle.std.proofs.Common.{arith}
 use Rattle.plan_file.proofs.Tags.{tags_more}
 use Rattle.plan_file.proofs.record.put_tags.Goals as goal
 
@@ -7,9 +6,3 @@ pub loop-i-preserved : goal.loop-i-preserved
 loop-i-preserved c =
     simp (c.to_be_bytes.ensures, c.loop-i.invariant)
     (tags_more c.args.tags.now c.args.buf.now c.loop-i.i (omega arith) (omega arith))
-
-pub returns : goal.returns
-returns c =
-    let e : c.loop-i.i ≡ length c.args.tags.now = omega arith in
-    let t = take_all c.loop-i.i c.args.tags.now (omega arith)
-    in cc
