@@ -1,6 +1,7 @@
 -- What an accepted call tells: the tests that it passed, and what it left.
 use Rattle.std.proofs.Common.{◌≡◌, ℕ, ◌+◌, ◌-◌, ◌*◌, ◌%◌, ◌<◌, ◌≤◌, Bool, true, false, not, ◌&&◌, eqb, ltb, leb, List, ◌∷◌, ◌++◌, map, length, take, drop, Some, None, Ok, Err, Option, Result, refl, arith}
-use Rattle.std.proofs.lemmas.Bool.{and_parts, ltb-true, leb-true, eqb-true, not-true}
+use Rattle.std.proofs.lemmas.Bool.{ltb-true, leb-true, eqb-true, not-true}
+use Rattle.std.proofs.lemmas.Bool.Decides.{nat_tests}
 use Rattle.rows.specs.declared.refusal.Refusal.{Refusal}
 use Rattle.rows.specs.declared.refusal.Refusal.TheVariants.{TagAbsent, NotReleased}
 use Rattle.rows.specs.declared.memory.Task.{Task}
@@ -15,7 +16,7 @@ use Rattle.model.specs.Planes.{tokens_fit, with_span, AfterStep, stepped, steps,
 use Rattle.plan_file.specs.Records.{record_size, records_bytes}
 
 never : {A E : Type 0} (a : A) (e : E) → ◌≡◌ {A = Result A E} (Err e) (Ok a) → ⊥
-never a e h = let z : ◌≡◌ {A = ℕ} 0 1 = cc in omega arith
+never a e h = cc
 
 value : {A E : Type 0} (a b : A) → ◌≡◌ {A = Result A E} (Ok a) (Ok b) → a ≡ b
 value a b h = cc
@@ -35,9 +36,13 @@ pub opened_ok : (m q : ℕ) (b : Rest) → opened m q ≡ Ok b → Opened m q b
 opened_ok m q b e =
     let e₁ = passed (leb 1 m && leb m most_processors) _ _ _ e in
     let e₂ = passed (leb 1 q && leb q largest_scale) _ _ _ e₁.1 in
-    let c₁ = and_parts (leb 1 m) (leb m most_processors) e₁.0 in
-    let c₂ = and_parts (leb 1 q) (leb q largest_scale) e₂.0 in
-    record { some = leb-true 1 m c₁.0; few = leb-true m most_processors c₁.1; scaled = leb-true 1 q c₂.0; fine = leb-true q largest_scale c₂.1; is = value _ _ e₂.1 }
+    record {
+      some = grind (arith, nat_tests, e₁.0);
+      few = grind (arith, nat_tests, e₁.0);
+      scaled = grind (arith, nat_tests, e₂.0);
+      fine = grind (arith, nat_tests, e₂.0);
+      is = value _ _ e₂.1;
+    }
 
 pub record Admitted (b : Rest) (ts : List Task) (tag c p : ℕ) (a : Rest × List Task) : Type 0 where
   pub tagged : 0 < tag
@@ -64,14 +69,13 @@ admitted_ok b ts tag c p a e =
     let e₅ = passed (not (has tag (tags (take n ts)))) _ _ _ e₄.1 in
     let e₆ = passed (ltb n most_tasks && ltb n (length ts)) _ _ _ e₅.1 in
     let e₇ = passed (leb (b.load + w) (b.processors * b.scale)) _ _ _ e₆.1 in
-    let c₃ = and_parts (ltb 0 c) (leb c p) e₃.0 in
     record {
       tagged = ltb-true 0 tag e₂.0;
-      some = ltb-true 0 c c₃.0;
-      within = leb-true c p c₃.1;
+      some = grind (arith, nat_tests, e₃.0);
+      within = grind (arith, nat_tests, e₃.0);
       divides = eqb-true (b.scale % p) 0 e₄.0;
       new = not-true _ e₅.0;
-      room = ltb-true n (length ts) (and_parts (ltb n most_tasks) (ltb n (length ts)) e₆.0).1;
+      room = grind (arith, nat_tests, e₆.0);
       bound = leb-true (b.load + w) (b.processors * b.scale) e₇.0;
       is = value _ _ e₇.1;
     }

@@ -1,7 +1,7 @@
 -- Running chosen tokens keeps the bounds of their plane. Nothing here knows in which order they were chosen.
-use Rattle.std.proofs.Common.{◌≡◌, ℕ, ◌+◌, ◌-◌, ◌*◌, ◌^◌, ◌<◌, ◌≤◌, Bool, true, false, cond, ◌&&◌, ltb, ◌⊎◌, List, map, sum_by, count_by, ap, inl, inr, ⊎_elim, arith}
+use Rattle.std.proofs.Common.{◌≡◌, ℕ, ◌+◌, ◌-◌, ◌*◌, ◌^◌, ◌<◌, ◌≤◌, Bool, true, false, cond, ◌&&◌, ltb, ◌⊎◌, List, map, sum_by, count_by, inl, inr, arith}
 use Rattle.std.specs.List.{AllByRecursion}
-use Rattle.std.proofs.lemmas.Bool.{and_parts, and_from, and_left, and_right, ltb-true, lt-ltb, le-ltb, cases_lt, cases_Bool, both_ways}
+use Rattle.std.proofs.lemmas.Bool.Decides.{nat_tests}
 use Rattle.rows.specs.declared.memory.Token.{Token}
 use Rattle.rows.specs.Tests.{distinct}
 use Rattle.model.proofs.Tags.{increasing}
@@ -73,12 +73,7 @@ module _ (m span : ℕ) (ts : List Token) (ok : Sound m span ts) (choice : Token
   has_length = positive choice span ts some open_gap
     where
       open_gap : (x : Token) → In x ts → 0 < gap choice span x
-      open_gap x i = ⊎_elim
-          (λ p. omega (arith, gap_picked choice span x p, fair.only_active x i p))
-          (λ p. ⊎_elim (λ lt. omega (arith, gap_other choice span x p))
-          (λ ge. absurd (both_ways _ p (fair.ceiling x i (omega (arith, ok.low x i)))))
-          (cases_lt x.left span))
-          (cases_Bool (choice x))
+      open_gap x i = grind (arith, fair.only_active x i, fair.ceiling x i, ok.low x i)
 
   abbrev go_on : Token → Token
   go_on = moved m choice ts len
@@ -89,34 +84,11 @@ module _ (m span : ℕ) (ts : List Token) (ok : Sound m span ts) (choice : Token
       omega (arith, sumBy_map (λ x. cond (inner (span - len) x) 1 0) go_on ts, fewer (attained choice span ts))
     where
       stays : (x : Token) → In x ts → inner (span - len) (go_on x) ≡ true → inner span x ≡ true
-      stays x i h =
-          let p = and_parts (ltb 0 (go_on x).left) (ltb (go_on x).left (span - len)) h in
-          let a = ltb-true 0 (go_on x).left p.0 in
-          let b = ltb-true (go_on x).left (span - len) p.1 in
-          ⊎_elim
-          (λ c. let l : (go_on x).left ≡ x.left - len = ap (λ b. cond b (x.left - len) x.left) c in
-          and_from _ _ (lt-ltb 0 x.left (omega arith)) (lt-ltb x.left span (omega arith)))
-          (λ c. let l : (go_on x).left ≡ x.left = ap (λ b. cond b (x.left - len) x.left) c in
-          and_from _ _ (lt-ltb 0 x.left (omega arith)) (lt-ltb x.left span (omega arith)))
-          (cases_Bool (choice x))
+      stays x i h = grind (arith, nat_tests)
 
       fewer : (len ≡ span) ⊎ ((x : Token) × In x ts × (len ≡ gap choice span x)) → count_by (λ x. inner (span - len) (go_on x)) ts < count_by (inner span) ts
       fewer (inl e) = absurd (omega arith)
       fewer (inr s) =
-          let x = s.0 in
-          let i = s.1 in
-          ⊎_elim
-          (λ c. let g = gap_picked choice span x c in
-          let l : (go_on x).left ≡ x.left - len = ap (λ b. cond b (x.left - len) x.left) c in
-          let a = fair.only_active x i c in
-          count_lt (λ x. inner (span - len) (go_on x)) (inner span) ts stays i
-          (and_left _ _ (le-ltb 0 (go_on x).left (omega (arith, s.2))))
-          (and_from _ _ (lt-ltb 0 x.left a) (lt-ltb x.left span (omega (arith, s.2)))))
-          (λ c. let g = gap_other choice span x c in
-          let l : (go_on x).left ≡ x.left = ap (λ b. cond b (x.left - len) x.left) c in
-          let w = ok.low x i in
-          let pos = has_length in
-          count_lt (λ x. inner (span - len) (go_on x)) (inner span) ts stays i
-          (and_right _ _ (le-ltb (go_on x).left (span - len) (omega (arith, s.2))))
-          (and_from _ _ (lt-ltb 0 x.left (omega (arith, s.2))) (lt-ltb x.left span (omega (arith, s.2)))))
-          (cases_Bool (choice x))
+          count_lt (λ x. inner (span - len) (go_on x)) (inner span) ts stays s.1
+          (grind (arith, nat_tests, s.2, fair.only_active s.0 s.1, ok.low s.0 s.1, has_length))
+          (grind (arith, nat_tests, s.2, fair.only_active s.0 s.1, ok.low s.0 s.1, has_length))

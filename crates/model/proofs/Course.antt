@@ -1,9 +1,10 @@
 -- The course of a plane: what is true after each of its steps.
-use Rattle.std.proofs.Common.{◌≡◌, ℕ, zero, suc, ◌+◌, ◌-◌, ◌*◌, ◌%◌, ◌^◌, ◌<◌, ◌≤◌, Bool, true, false, cond, eqb, List, [], ◌∷◌, ◌++◌, map, reverse, length, sum_by, count_by, filter, sym, refl, ap, ◌∙◌, subst, arith}
+use Rattle.std.proofs.Common.{◌≡◌, ℕ, zero, suc, ◌+◌, ◌-◌, ◌*◌, ◌%◌, ◌^◌, ◌<◌, ◌≤◌, true, cond, eqb, List, [], ◌∷◌, ◌++◌, map, reverse, length, sum_by, count_by, filter, ◌⊎◌, inl, inr, sym, refl, ap, ◌∙◌, subst, append_assoc, arith}
 use mathlib.Core.List.{reverse_aux-eq}
 use Rattle.std.specs.List.{AllByRecursion}
-use Rattle.std.proofs.lemmas.List.{length-map}
+use Rattle.std.proofs.lemmas.List.{length-map, map-append}
 use Rattle.std.proofs.lemmas.List.Sums.{sum_by-cons}
+use Rattle.std.proofs.lemmas.Bool.{cond_both, eqb-true, eqb-false}
 use Rattle.rows.specs.declared.memory.Task.{Task}
 use Rattle.rows.specs.declared.memory.Token.{Token}
 use Rattle.rows.specs.Tests.{has}
@@ -21,7 +22,7 @@ use Rattle.model.specs.Members.{In, Each, here, there}
 use Rattle.model.proofs.Distances.{at_most}
 use Rattle.model.proofs.Bounds.{Sound, reach, inner, falls}
 use Rattle.model.proofs.Chosen.{fair}
-use Rattle.model.proofs.Stepping.{run_sound, falls_by}
+use Rattle.model.proofs.Stepping.{step_sound, falls_by}
 use Rattle.model.proofs.Segments.{Good, step_good}
 
 -- after k steps of a plane of n tasks
@@ -72,14 +73,7 @@ pub total_cons : (s : Segment) (ss : List Segment) → total (s ∷ ss) ≡ s.un
 total_cons s ss = sum_by-cons (λ s. s.units) s ss
 
 pub run_by_cons : (tag : ℕ) (s : Segment) (ss : List Segment) → run_by tag (s ∷ ss) ≡ cond (has tag s.row) s.units 0 + run_by tag ss
-run_by_cons tag s ss = go (has tag s.row)
-  where
-    rest : List Segment
-    rest = filter (λ s. has tag s.row) ss
-
-    go : (b : Bool) → total (cond b (s ∷ rest) rest) ≡ cond b s.units 0 + total rest
-    go true = total_cons s rest
-    go false = omega arith
+run_by_cons tag s ss = grind (arith, total_cons s (filter (λ s. has tag s.row) ss))
 
 paid_step : (q ticks : ℕ) (s : Segment) (ss : List Segment) (f : Token → Token) (ts : List Task) (ks : List Token)
     → ((x : Token) → In x ks → ((f x).tag ≡ x.tag) × ((f x).left + cond (has x.tag s.row) s.units 0 ≡ x.left))
@@ -117,7 +111,7 @@ step_running p ts ks h key law pos o =
       first = o.first;
       short = omega (arith, o.short);
       there = length-map ks _ ∙ o.there;
-      sound = run_sound m p.span ks o.sound picks choice (distance picks p.span ks) (reach picks p.span ks);
+      sound = step_sound m key law p.span ks o.sound pos o.short;
       slow = step_slow m key law p.board.count p.span ks (length (since_start h)) o.sound pos o.short o.slow;
       listed = o.listed;
       tasks = o.tasks;
@@ -131,33 +125,26 @@ step_running p ts ks h key law pos o =
 
 -- the history of a first segment and more
 ran_more : (s : Segment) (ss : List Segment) (h : List Event) → map ran (reverse (s ∷ ss)) ++ h ≡ map ran (reverse ss) ++ (ran s ∷ h)
-ran_more s ss h = ap (λ l. map ran l ++ h) (reverse_aux-eq ss (s ∷ [])) ∙ split (reverse ss)
-  where
-    split : (rs : List Segment) → map ran (rs ++ (s ∷ [])) ++ h ≡ map ran rs ++ (ran s ∷ h)
-    split [] = refl
-    split (r ∷ rs) = ap (λ l. ran r ∷ l) (split rs)
+ran_more s ss h = rw (reverse_aux-eq ss (s ∷ []), map-append, append_assoc) refl
+
+-- What holds of no steps holds of many if it holds of one more.
+module _ (m : ℕ) (key : Key) (P : ℕ → ℕ → List Token → List Segment × ℕ × List Token → Type 0)
+    (none : (fuel r : ℕ) (ks : List Token) → (fuel ≡ 0) ⊎ (r ≡ 0) → P fuel r ks ([], r, ks))
+    (more : (fuel r : ℕ) (ks : List Token) (rest : List Segment × ℕ × List Token) → 0 < r
+    → P fuel (Steps.step m key r ks).span (Steps.step m key r ks).tokens rest → P (suc fuel) r ks ((Steps.step m key r ks).segment ∷ rest.0, rest.1, rest.2)) where
+  pub steps_by : (fuel r : ℕ) (ks : List Token) → P fuel r ks (steps fuel m key r ks)
+  steps_by zero r ks = none zero r ks (inl refl)
+  steps_by (suc fuel) r ks =
+      cond_both (eqb r 0) _ _ (P (suc fuel) r ks) (λ e. none (suc fuel) r ks (inr (eqb-true r 0 e)))
+      (λ e. more fuel r ks _ (omega (arith, eqb-false r 0 e)) (steps_by fuel _ _))
 
 -- many steps
 pub steps_running : (fuel : ℕ) (p : Open) (ts : List Task) (ks : List Token) (h : List Event) (key : Key) → Lawful key → Running p ts ks h
     → Running (with_span p (steps fuel p.board.processors key p.span ks).1) ts (steps fuel p.board.processors key p.span ks).2
     (map ran (reverse (steps fuel p.board.processors key p.span ks).0) ++ h)
-steps_running zero p ts ks h key law o = o
-steps_running (suc fuel) p ts ks h key law o =
-    go (eqb p.span 0) refl (λ pos. steps_running fuel _ ts _ _ key law (step_running p ts ks h key law pos o))
-  where
-    s : Steps.Step
-    s = Steps.step p.board.processors key p.span ks
-
-    more : List Segment × ℕ × List Token
-    more = steps fuel p.board.processors key s.span s.tokens
-
-    pick : Bool → List Segment × ℕ × List Token
-    pick b = cond {A = List Segment × ℕ × List Token} b ([], p.span, ks) (s.segment ∷ more.0, more.1, more.2)
-
-    positive : eqb p.span 0 ≡ false → 0 < p.span
-    positive f = grind arith
-
-    go : (b : Bool) → eqb p.span 0 ≡ b → (0 < p.span → Running (with_span p more.1) ts more.2 (map ran (reverse more.0) ++ (ran s.segment ∷ h)))
-        → Running (with_span p (pick b).1) ts (pick b).2 (map ran (reverse (pick b).0) ++ h)
-    go true e again = o
-    go false e again = subst (Running (with_span p more.1) ts more.2) (sym (ran_more s.segment more.0 h)) (again (positive e))
+steps_running fuel p ts ks h key law o =
+    steps_by p.board.processors key
+    (λ fuel r ks out. (h : List Event) → Running (with_span p r) ts ks h → Running (with_span p out.1) ts out.2 (map ran (reverse out.0) ++ h))
+    (λ fuel r ks e h o. o)
+    (λ fuel r ks rest pos again h o. subst (Running (with_span p rest.1) ts rest.2) (sym (ran_more _ rest.0 h)) (again _ (step_running (with_span p r) ts ks h key law pos o)))
+    fuel p.span ks h o

@@ -1,7 +1,7 @@
 -- The distance to the next event, for any choice.
-use Rattle.std.proofs.Common.{◌≡◌, ℕ, ◌-◌, ◌<◌, ◌≤◌, min, Bool, true, false, cond, ◌⊎◌, List, [], ◌∷◌, map, sum_by, refl, ap, inl, inr, arith}
+use Rattle.std.proofs.Common.{◌≡◌, ℕ, ◌+◌, ◌-◌, ◌<◌, ◌≤◌, Bool, true, false, cond, ◌⊎◌, List, [], ◌∷◌, map, sum_by, refl, ap, inl, inr, ⊎_elim, arith}
 use Rattle.std.specs.List.{AllByRecursion}
-use Rattle.std.proofs.lemmas.List.Sums.{sum_by-cons}
+use Rattle.std.proofs.lemmas.List.Folds.{fold-map}
 use Rattle.std.proofs.lemmas.Bool.{cases_lt}
 use Rattle.rows.specs.declared.memory.Token.{Token}
 use Rattle.model.specs.Steps.{gap, distance}
@@ -9,8 +9,7 @@ use Rattle.model.specs.Members.{In, here, there}
 
 -- the sum over a mapped list
 pub sumBy_map : {X Y : Type 0} (f : Y → ℕ) (g : X → Y) (xs : List X) → sum_by f (map g xs) ≡ sum_by (λ x. f (g x)) xs
-sumBy_map f g [] = refl
-sumBy_map f g (x ∷ xs) = omega (arith, sum_by-cons f (g x) (map g xs), sum_by-cons (λ x. f (g x)) x xs, sumBy_map f g xs)
+sumBy_map f g xs = fold-map (λ n y. n + f y) g 0 xs
 
 pub all_map : {X Y : Type 0} (P : Y → Type 0) (g : X → Y) (xs : List X) → ((x : X) → In x xs → P (g x)) → AllByRecursion P (map g xs)
 all_map P g [] h = tt
@@ -32,14 +31,10 @@ module _ (picks : Token → Bool) (span : ℕ) where
 
   pub attained : (ts : List Token) → (distance picks span ts ≡ span) ⊎ ((x : Token) × In x ts × (distance picks span ts ≡ gap picks span x))
   attained [] = inl refl
-  attained (x ∷ xs) = go (cases_lt (gap picks span x) (distance picks span xs)) (attained xs)
-    where
-      go : (gap picks span x < distance picks span xs) ⊎ (distance picks span xs ≤ gap picks span x)
-          → (distance picks span xs ≡ span) ⊎ ((y : Token) × In y xs × (distance picks span xs ≡ gap picks span y))
-          → (min (gap picks span x) (distance picks span xs) ≡ span) ⊎ ((y : Token) × In y (x ∷ xs) × (min (gap picks span x) (distance picks span xs) ≡ gap picks span y))
-      go (inl a) r = inr (x, here, omega arith)
-      go (inr a) (inl e) = inl (omega arith)
-      go (inr a) (inr s) = inr (s.0, there s.1, omega (arith, s.2))
+  attained (x ∷ xs) = ⊎_elim
+      (λ a. inr (x, here, omega arith))
+      (λ a. ⊎_elim (λ e. inl (omega arith)) (λ s. inr (s.0, there s.1, omega (arith, s.2))) (attained xs))
+      (cases_lt (gap picks span x) (distance picks span xs))
 
   pub gap_picked : (x : Token) → picks x ≡ true → gap picks span x ≡ x.left
   gap_picked x h = ap (λ b. cond b x.left (span - x.left)) h

@@ -24,13 +24,13 @@ after m q asks = (reached (resting (record { processors = m; scale = q; tick = 0
 
 -- its segments in order: length, kind and the tags of so many processors
 abbrev plan : ℕ → World → List (List ℕ)
-plan m (resting b memory h) = map (λ s. s.units ∷ s.kind ∷ take m s.row) (reverse (ran_in h))
-plan m (running p memory h) = map (λ s. s.units ∷ s.kind ∷ take m s.row) (reverse (ran_in h))
+plan m (resting b brought h) = map (λ s. s.units ∷ s.kind ∷ take m s.row) (reverse (ran_in h))
+plan m (running p brought h) = map (λ s. s.units ∷ s.kind ∷ take m s.row) (reverse (ran_in h))
 
 -- the tick, the count of tasks and the load of its board, and what remains of its plane
 abbrev stand : World → ℕ × ℕ × ℕ × ℕ
-stand (resting b memory h) = (b.tick, b.count, b.load, 0)
-stand (running p memory h) = (p.board.tick, p.board.count, p.board.load, p.span)
+stand (resting b brought h) = (b.tick, b.count, b.load, 0)
+stand (running p brought h) = (p.board.tick, p.board.count, p.board.load, p.span)
 
 abbrev largest : Ask
 largest = step largest_first lawful
@@ -120,8 +120,8 @@ used asks =
     (record { tasks = replicate 4 old_task; tokens = replicate 4 old_token }) []) asks).0
 
 abbrev past : ℕ → World → List Task × List Token
-past n (resting b memory h) = (drop n memory.tasks, drop n memory.tokens)
-past n (running p memory h) = (drop n memory.tasks, drop n memory.tokens)
+past n (resting b brought h) = (drop n brought.tasks, drop n brought.tokens)
+past n (running p brought h) = (drop n brought.tasks, drop n brought.tokens)
 
 past_start : past 2 (used (two ++ largest ∷ [])) ≡ (replicate 2 old_task, replicate 2 old_token)
 past_start = refl

@@ -6,15 +6,13 @@ use Rattle.rows.specs.declared.memory.Token.{Token}
 use Rattle.rules.specs.Keys.{Key, Lawful}
 use Rattle.model.specs.State.{Open}
 use Rattle.model.specs.Steps
-use Rattle.model.specs.Steps.{chosen, distance}
 use Rattle.model.specs.Planes.{tokens_fit, segment_of}
 use Rattle.model.specs.Fitting.{Widths}
-use Rattle.model.proofs.Counts.{all_in, in_all}
-use Rattle.model.proofs.Bounds.{Sound, reach}
-use Rattle.model.proofs.Chosen.{fair}
-use Rattle.model.proofs.Stepping.{run_sound}
+use Rattle.model.proofs.Counts.{all_in}
+use Rattle.model.proofs.Bounds.{Sound}
+use Rattle.model.proofs.Stepping.{step_sound}
 use Rattle.model.proofs.Segments.{Good, step_good}
-use Rattle.model.proofs.Fits.{sound_fit, fit_sound}
+use Rattle.model.proofs.Fits.{sound_fit, fit_widths}
 use Rattle.model.proofs.Accepted.{step_of}
 
 pub step_fits : (p : Open) (memory : List Token) → Widths p memory → (key : Key) → Lawful key → 0 < p.span → tokens_fit p memory ≡ true
@@ -24,9 +22,8 @@ step_fits p memory widths key law some fits =
     let n = p.board.count in
     let m = p.board.processors in
     let ts = take n memory in
-    let s = fit_sound p memory widths.some widths.few (λ x i. in_all (λ x. x.tag < 2 ^ 16) widths.tags i) fits in
-    let picks = chosen m key p.span ts in
-    let ok = run_sound m p.span ts s.1 picks (fair m key law p.span ts s.1 some widths.short) (distance picks p.span ts) (reach picks p.span ts) in
+    let s = fit_widths p memory widths fits in
+    let ok = step_sound m key law p.span ts s.1 some widths.short in
     let us = (Steps.step m key p.span ts).tokens in
     let there : length us ≡ n = length-map ts _ ∙ s.0 in
     let front : take n (us ++ drop n memory) ≡ us = take_at us (drop n memory) n there in

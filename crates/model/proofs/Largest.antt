@@ -1,7 +1,8 @@
 -- Under "largest first" a step is that of LLREF.
 use Rattle.std.proofs.Common.{◌≡◌, ℕ, ◌+◌, ◌-◌, ◌^◌, ◌<◌, ◌≤◌, min, Bool, true, false, cond, not, ◌&&◌, eqb, List, [], ◌∷◌, ◌++◌, map, length, get_or, take, drop, count_by, sym, refl, ap, ◌∙◌, subst, inl, inr, ⊎_elim, arith, take_at}
 use Rattle.std.proofs.lemmas.List.{length-map}
-use Rattle.std.proofs.lemmas.Bool.{and_parts, and_from, lt-ltb, ltb-true, eqb-true, eq-eqb, ne_eqb, cases_Bool, cases_lt, both_ways, cond-true, cond-false, not-true, not_from_false}
+use Rattle.std.proofs.lemmas.Bool.{and_parts, and_from, eqb-true, eq-eqb, ne_eqb, cases_Bool, cases_lt, both_ways, cond-true, cond-false, not_from_false}
+use Rattle.std.proofs.lemmas.Bool.Decides.{nat_tests}
 use Rattle.rows.specs.declared.memory.Token.{Token}
 use Rattle.rows.specs.Tests.{has, any}
 use Rattle.rules.specs.Keys.{Key, Lawful, largest_first}
@@ -11,17 +12,17 @@ use Rattle.model.specs.Steps
 use Rattle.model.specs.Steps.{active, before, chosen, distance, event, moved}
 use Rattle.model.specs.Planes.{AfterStep, segment_of}
 use Rattle.model.specs.Llref.{runs, LargestRun, UsedUp, MeetsCeiling, FirstEvent, EventNamed, AfterSegment, LlrefStep, LargestFirstIsLlref}
-use Rattle.model.proofs.Counts.{count_le, in_all}
-use Rattle.model.proofs.Ranks.{filled, rises, rank}
+use Rattle.model.proofs.Counts.{count_le, count_same}
+use Rattle.model.proofs.Ranks.{filled, rises}
 use Rattle.model.proofs.Order.{same, says, total, ordered, same_token}
 use Rattle.model.proofs.Distances.{at_most, attained, gap_picked, gap_other}
 use Rattle.model.proofs.Bounds.{Sound, Choice, reach, has_length}
 use Rattle.model.proofs.Chosen.{at_most_m, fair}
-use Rattle.model.proofs.Stepping.{run_sound, row_says, falls_by, chosen_on, other_off, unshared, one, map_in}
+use Rattle.model.proofs.Stepping.{step_sound, row_says, falls_by, chosen_on, other_off, unshared, one, map_in}
 use Rattle.model.proofs.Turns.{lower_taken}
 use Rattle.model.proofs.Runners.{row_at}
-use Rattle.model.proofs.Segments.{any_in, any_of}
-use Rattle.model.proofs.Fits.{fit_sound}
+use Rattle.model.proofs.Segments.{any_in, none_of}
+use Rattle.model.proofs.Fits.{fit_widths}
 use Rattle.model.proofs.Accepted.{stepped_ok}
 
 pub lawful : Lawful largest_first
@@ -31,10 +32,6 @@ each_map : {X Y : Type 0} (R : X → Y → Type 0) (f : X → Y) (xs : List X) �
 each_map R f [] h = tt
 each_map R f (x ∷ xs) h = (h x here, each_map R f xs (λ y i. h y (there i)))
 
-count_same : {X : Type 0} (p q : X → Bool) (xs : List X) → ((x : X) → In x xs → p x ≡ q x) → count_by p xs ≡ count_by q xs
-count_same p q xs h =
-    omega (arith, count_le p q xs (λ x i e. sym (h x i) ∙ e), count_le q p xs (λ x i e. h x i ∙ e))
-
 -- For every rule: it chooses as many as it can, and the first in its order.
 module _ (m : ℕ) (key : Key) (span : ℕ) (ts : List Token) (ok : Sound m span ts) where
   abbrev picks : Token → Bool
@@ -42,7 +39,7 @@ module _ (m : ℕ) (key : Key) (span : ℕ) (ts : List Token) (ok : Sound m span
 
   as_many : count_by picks ts ≡ min m (count_by active ts)
   as_many = ⊎_elim
-      (λ l. let all : count_by active ts ≤ count_by picks ts = count_le active picks ts (λ x i a. ⊎_elim (λ p. p) (λ p. absurd (waits l x i a p)) (cases_Bool (picks x))) in omega (arith, some))
+      (λ l. omega (arith, l, some, count_le active picks ts (λ x i a. let f = filled active (before key span) ts m same (ordered key span m ts ok.tagged) x i a in grind arith)))
       (λ g. omega (arith, some, most))
       (cases_lt (count_by picks ts) m)
     where
@@ -52,24 +49,12 @@ module _ (m : ℕ) (key : Key) (span : ℕ) (ts : List Token) (ok : Sound m span
       most : count_by picks ts ≤ m
       most = at_most_m m key span ts ok
 
-      waits : count_by picks ts < m → (x : Token) → In x ts → active x ≡ true → picks x ≡ false → ⊥
-      waits l x i a p = let f = filled active (before key span) ts m same (ordered key span m ts ok.tagged) x i a p in omega arith
-
   -- one that is chosen stands before every active one that is not
   goes_before : (x y : Token) → In x ts → In y ts → picks x ≡ true → picks y ≡ false → active y ≡ true → before key span x y ≡ true
-  goes_before x y i j p q a = ⊎_elim (⊎_elim (λ b. b) (λ b. absurd (late b))) (λ s. absurd (alike s)) (total key span x y)
-    where
-      rank_of : Token → ℕ
-      rank_of = rank active (before key span) ts m
-
-      late : before key span y x ≡ true → ⊥
-      late b =
-          let up : rank_of y < rank_of x = rises active (before key span) ts m same (ordered key span m ts ok.tagged) y x j a b in
-          let l : rank_of x < m = ltb-true _ m (and_parts (active x) _ p).1 in
-          both_ways _ q (and_from (active y) _ a (lt-ltb (rank_of y) m (omega arith)))
-
-      alike : same x y ≡ true → ⊥
-      alike s = both_ways _ q (subst (λ z. picks z ≡ true) (same_token 0 ts ok.tagged x y i j (eqb-true x.tag y.tag s)) p)
+  goes_before x y i j p q a = ⊎_elim
+      (⊎_elim (λ b. b) (λ b. grind (arith, nat_tests, rises active (before key span) ts m same (ordered key span m ts ok.tagged) y x j a b)))
+      (λ s. absurd (both_ways _ q (rw (← same_token 0 ts ok.tagged x y i j (eqb-true x.tag y.tag s)) p)))
+      (total key span x y)
 
 -- For every fair choice: its step comes to the first event, names it, and moves its tokens.
 module _ (m span : ℕ) (ts : List Token) (ok : Sound m span ts) (picks : Token → Bool) (choice : Choice m span ts picks) (pos : 0 < span) where
@@ -124,22 +109,14 @@ module _ (m span : ℕ) (ts : List Token) (ok : Sound m span ts) (picks : Token 
   emptied_yes u = any_in emptied ts u.1 (and_from _ _ (picked u.0 u.1 u.2) (eq-eqb u.0.left d u.3))
 
   emptied_no : (UsedUp seg ts → ⊥) → any emptied ts ≡ false
-  emptied_no n = ⊎_elim
-      (λ e. let s = any_of emptied ts e in
-      let p = and_parts (picks s.0) (eqb s.0.left d) s.2 in
-      absurd (n (used_up s.0 s.1 p.0 (eqb-true s.0.left d p.1))))
-      (λ e. e) (cases_Bool (any emptied ts))
+  emptied_no n = none_of emptied ts (λ x i e. n (used_up x i (and_parts _ _ e).0 (eqb-true x.left d (and_parts _ _ e).1)))
 
   topped_yes : MeetsCeiling span seg ts → any topped ts ≡ true
   topped_yes u =
       any_in topped ts u.1 (and_from _ _ (not_from_false _ (passed u.0 u.1 u.2)) (eq-eqb u.0.left (span - d) (omega (arith, u.3))))
 
   topped_no : (MeetsCeiling span seg ts → ⊥) → any topped ts ≡ false
-  topped_no n = ⊎_elim
-      (λ e. let s = any_of topped ts e in
-      let p = and_parts (not (picks s.0)) (eqb s.0.left (span - d)) s.2 in
-      absurd (n (meets s.0 s.1 (not-true _ p.0) (omega (arith, eqb-true s.0.left (span - d) p.1, at_most picks span ts)))))
-      (λ e. e) (cases_Bool (any topped ts))
+  topped_no n = none_of topped ts (λ x i e. n (meets x i (grind arith) (grind (arith, nat_tests, at_most picks span ts))))
 
   going : d < span → eqb (span - d) 0 ≡ false
   going l = ne_eqb (span - d) 0 (λ e. omega arith)
@@ -200,7 +177,7 @@ largest_first_is_llref p memory widths r e =
     let m = p.board.processors in
     let ts = take n memory in
     let k = stepped_ok p memory largest_first r e in
-    let s = fit_sound p memory widths.some widths.few (λ x i. in_all (λ x. x.tag < 2 ^ 16) widths.tags i) k.fits in
+    let s = fit_widths p memory widths k.fits in
     let ok = s.1 in
     let picks = chosen m largest_first p.span ts in
     let choice = fair m largest_first lawful p.span ts ok k.going widths.short in
@@ -214,7 +191,7 @@ largest_first_is_llref p memory widths r e =
         how_long = first_event m p.span ts ok picks choice k.going;
         event = event_named m p.span ts ok picks choice k.going;
         after = after m p.span ts ok picks choice k.going;
-        own_processors = (run_sound m p.span ts ok picks choice (distance picks p.span ts) (reach picks p.span ts)).own;
+        own_processors = (step_sound m largest_first lawful p.span ts ok k.going widths.short).own;
       }),
       omega (arith, at_most picks p.span ts),
     )

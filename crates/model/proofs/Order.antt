@@ -1,7 +1,8 @@
 -- The order of tokens is strict and total, and a token on the ceiling is chosen.
 use Rattle.std.proofs.Common.{◌≡◌, ℕ, ◌*◌, ◌<◌, ◌≤◌, Bool, true, false, ◌&&◌, eqb, ltb, ◌⊎◌, List, [], ◌∷◌, map, sum_by, count_by, sym, refl, ap, inl, inr, ⊎_elim, arith}
 use Rattle.std.proofs.lemmas.List.Sums.{sum_by-cons}
-use Rattle.std.proofs.lemmas.Bool.{and_parts, and_from, and_right, or_cases, or_left, or_right, or_from, ltb-true, lt-ltb, le-ltb, eqb-true, eq-eqb, ne_eqb, cases_order}
+use Rattle.std.proofs.lemmas.Bool.{and_parts, and_from, or_cases, or_left, or_right, ltb-true, lt-ltb, eqb-true, eq-eqb, ne_eqb, cases_order}
+use Rattle.std.proofs.lemmas.Bool.Decides.{nat_tests}
 use Rattle.rows.specs.declared.memory.Token.{Token}
 use Rattle.model.proofs.Tags
 use Rattle.model.proofs.Tags.{increasing}
@@ -23,24 +24,19 @@ pub same_token : (low : ℕ) (ts : List Token) → increasing low (map (λ t. t.
 same_token low [] h x y i j e = elim i [ ]
 same_token low (t ∷ ts) h x y here here e = refl
 same_token low (t ∷ ts) h x y here (there j) e =
-    absurd (omega (arith, above x.tag ts (and_parts (ltb low x.tag) (increasing x.tag (map (λ t. t.tag) ts)) h).1 y j))
+    absurd (omega (arith, above x.tag ts (and_parts _ _ h).1 y j))
 same_token low (t ∷ ts) h x y (there i) here e =
-    absurd (omega (arith, above y.tag ts (and_parts (ltb low y.tag) (increasing y.tag (map (λ t. t.tag) ts)) h).1 x i))
-same_token low (t ∷ ts) h x y (there i) (there j) e =
-    same_token t.tag ts (and_parts (ltb low t.tag) (increasing t.tag (map (λ t. t.tag) ts)) h).1 x y i j e
+    absurd (omega (arith, above y.tag ts (and_parts _ _ h).1 x i))
+same_token low (t ∷ ts) h x y (there i) (there j) e = same_token t.tag ts (and_parts _ _ h).1 x y i j e
 
 -- a tag stands once
 once : (low : ℕ) (ts : List Token) → increasing low (map (λ t. t.tag) ts) ≡ true → (x : Token) → In x ts → count_by (same x) ts ≤ 1
 once low [] h x i = elim i [ ]
 once low (t ∷ ts) h x here =
-    let p = and_parts (ltb low t.tag) (increasing t.tag (map (λ t. t.tag) ts)) h in
-    let e : bit (same x t) ≤ 1 = grind arith in
-    omega (arith, count_cons (same x) t ts, e, count_none (same x) ts (λ y j. ne_eqb x.tag y.tag (λ q. let b = above t.tag ts p.1 y j in omega arith)))
+    grind (arith, count_cons (same x) t ts, count_none (same x) ts (λ y j. ne_eqb x.tag y.tag (λ q. omega (arith, above t.tag ts (and_parts _ _ h).1 y j))))
 once low (t ∷ ts) h x (there i) =
-    let p = and_parts (ltb low t.tag) (increasing t.tag (map (λ t. t.tag) ts)) h in
-    let b = above t.tag ts p.1 x i in
-    let e : bit (same x t) ≡ 0 = ap bit (ne_eqb x.tag t.tag (λ q. omega arith)) in
-    omega (arith, count_cons (same x) t ts, e, once t.tag ts p.1 x i)
+    let up = (and_parts (ltb low t.tag) (increasing t.tag (map (λ t. t.tag) ts)) h).1 in
+    grind (arith, nat_tests, count_cons (same x) t ts, above t.tag ts up x i, once t.tag ts up x i)
 
 module _ (key : Key) (span : ℕ) where
   abbrev pub of : Token → ℕ
@@ -60,16 +56,10 @@ module _ (key : Key) (span : ℕ) where
   by_tag x y e h = or_right (ltb (of x) (of y)) _ (and_from _ _ (eq-eqb (of x) (of y) e) (lt-ltb x.tag y.tag h))
 
   pub irrefl : (x : Token) → before key span x x ≡ false
-  irrefl x = or_from _ _ (le-ltb (of x) (of x) (omega arith)) (and_right _ _ (le-ltb x.tag x.tag (omega arith)))
+  irrefl x = grind (arith, nat_tests)
 
   trans : (x y z : Token) → before key span x y ≡ true → before key span y z ≡ true → before key span x z ≡ true
-  trans x y z h k = go (says x y h) (says y z k)
-    where
-      go : (of x < of y) ⊎ ((of x ≡ of y) × (x.tag < y.tag)) → (of y < of z) ⊎ ((of y ≡ of z) × (y.tag < z.tag)) → before key span x z ≡ true
-      go (inl a) (inl b) = by_key x z (omega arith)
-      go (inl a) (inr b) = by_key x z (omega arith)
-      go (inr a) (inl b) = by_key x z (omega arith)
-      go (inr a) (inr b) = by_tag x z (omega arith) (omega arith)
+  trans x y z h k = grind (arith, nat_tests)
 
   pub total : (x y : Token) → ((before key span x y ≡ true) ⊎ (before key span y x ≡ true)) ⊎ (same x y ≡ true)
   total x y = go (cases_order (of x) (of y)) (cases_order x.tag y.tag)
@@ -91,9 +81,5 @@ module _ (key : Key) (span : ℕ) where
   pub tops : (ts : List Token) → count_by top ts * span ≤ sum_by (λ x. x.left) ts
   tops [] = omega arith
   tops (x ∷ xs) =
-      let one : bit (top x) * span ≤ x.left = go (cases_order x.left span) in
+      let one : bit (top x) * span ≤ x.left = grind (arith, nat_tests) in
       omega (arith, sum_by-cons (λ x. x.left) x xs, ap (λ k. k * span) (count_cons top x xs), one, tops xs)
-    where
-      go : (x.left ≡ span) ⊎ ((x.left < span) ⊎ (span < x.left)) → bit (top x) * span ≤ x.left
-      go (inl e) = let b : bit (top x) ≡ 1 = ap bit (eq-eqb x.left span e) in omega (arith, ap (λ k. k * span) b)
-      go (inr n) = let b : bit (top x) ≡ 0 = ap bit (ne_eqb x.left span (λ e. ⊎_elim (λ a. omega arith) (λ a. omega arith) n)) in omega (arith, ap (λ k. k * span) b)

@@ -25,10 +25,7 @@ module _ (t : Task) where
 
   -- a row of another tag is below or beyond
   either : (xs : List Task) → has t.tag (tags xs) ≡ false → filter beyond xs ≡ filter (λ x. not (below x)) xs
-  either xs new = kept_same beyond (λ x. not (below x)) xs (λ x i. apart x (absent t.tag xs new x i))
-    where
-      apart : (x : Task) → (t.tag ≡ x.tag → ⊥) → beyond x ≡ not (below x)
-      apart x n = grind arith
+  either xs new = kept_same beyond (λ x. not (below x)) xs (λ x i. grind (arith, absent t.tag xs new x i))
 
   pub length_placed : (xs : List Task) → has t.tag (tags xs) ≡ false → length (placed t xs) ≡ suc (length xs)
   length_placed xs new =
@@ -75,7 +72,7 @@ module _ (tag : ℕ) where
   -- one row less
   pub without_one : (f : Task → ℕ) (low : ℕ) (xs : List Task) (t : Task) → increasing low (tags xs) ≡ true → found tag xs ≡ Some t
       → (length xs ≡ suc (length (without tag xs))) × (sum_by f xs ≡ f t + sum_by f (without tag xs))
-  without_one f low [] t up e = let z : ◌≡◌ {A = ℕ} 0 1 = cc in absurd (omega arith)
+  without_one f low [] t up e = cc
   without_one f low (x ∷ xs) t up e =
       let h = (and_parts (ltb low x.tag) (increasing x.tag (tags xs)) up).1 in
       go (eqb x.tag tag) refl h (without_one f x.tag xs t h) e

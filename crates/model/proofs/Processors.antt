@@ -1,11 +1,12 @@
 -- Each chosen token has a processor of its own.
-use Rattle.std.proofs.Common.{◌≡◌, ℕ, zero, suc, ◌+◌, ◌<◌, ◌≤◌, Bool, true, false, cond, not, ◌&&◌, ◌||◌, eqb, ltb, leb, ◌⊎◌, List, [], ◌∷◌, map, length, get_or, count_by, filter, sym, refl, ap, ◌∙◌, subst, inl, inr, ⊎_elim, arith}
+use Rattle.std.proofs.Common.{◌≡◌, ℕ, zero, suc, ◌+◌, ◌<◌, ◌≤◌, Bool, true, false, cond, not, ◌&&◌, eqb, ltb, leb, ◌⊎◌, List, [], ◌∷◌, map, length, get_or, count_by, filter, sym, refl, ◌∙◌, subst, inl, inr, ⊎_elim, arith}
 use Rattle.std.specs.List.{range_with_len, AllByRecursion}
 use Rattle.std.proofs.lemmas.List.FromFn.{length-range_with_len}
 use Rattle.std.proofs.ByRecursion.{All-get_or, all_kept_by, kept_by_passes}
 use Rattle.std.proofs.lemmas.List.Filters.{length-filter_both}
 use Rattle.std.proofs.lemmas.List.Sums.{length-filter}
-use Rattle.std.proofs.lemmas.Bool.{and_parts, and_from, and_right, or_cases, or_left, or_right, ltb-true, lt-ltb, le-ltb, eqb-true, eqb-false, eq-eqb, ne_eqb, le-leb, lt-leb, cases_order, cases_Bool, both_ways, not-true, cond-true, cond-false}
+use Rattle.std.proofs.lemmas.Bool.{and_parts, and_from, and_right, or_cases, or_left, or_right, lt-ltb, le-ltb, eqb-true, eqb-false, eq-eqb, cases_order, cases_Bool, both_ways, not-true, cond-true, cond-false, cond_both}
+use Rattle.std.proofs.lemmas.Bool.Decides.{nat_tests}
 use Rattle.rows.specs.declared.memory.Token.{Token}
 use Rattle.rows.specs.Tests.{has, distinct}
 use Rattle.model.specs.Steps.{free, turn, assigned}
@@ -16,15 +17,8 @@ use Rattle.model.proofs.Counts.{bit, count_cons, count_none, count_lt, count_or}
 hits : (q a n : ℕ) → count_by (λ p. eqb p q) (range_with_len a n) ≤ bit (leb a q)
 hits q a zero = omega arith
 hits q a (suc n) =
-    omega (arith, count_cons (λ p. eqb p q) a (range_with_len (a + 1) n), hits q (a + 1) n, one (cases_order a q))
-  where
-    one : (a ≡ q) ⊎ ((a < q) ⊎ (q < a)) → bit (eqb a q) + bit (leb (a + 1) q) ≤ bit (leb a q)
-    one (inl e) =
-        omega (arith, ap bit (eq-eqb a q e), ap bit (lt-leb (a + 1) q (omega arith)), ap bit (le-leb a q (omega arith)))
-    one (inr (inl l)) =
-        omega (arith, ap bit (ne_eqb a q (λ e. omega arith)), ap bit (le-leb (a + 1) q (omega arith)), ap bit (le-leb a q (omega arith)))
-    one (inr (inr l)) =
-        omega (arith, ap bit (ne_eqb a q (λ e. omega arith)), ap bit (lt-leb (a + 1) q (omega arith)), ap bit (lt-leb a q (omega arith)))
+    let one : bit (eqb a q) + bit (leb (a + 1) q) ≤ bit (leb a q) = grind (arith, nat_tests) in
+    omega (arith, count_cons (λ p. eqb p q) a (range_with_len (a + 1) n), hits q (a + 1) n, one)
 
 -- so many of 1 to m are used as there are numbers above 0
 used : (m : ℕ) (ps : List ℕ) → count_by (λ p. has p ps) (range_with_len 1 m) ≤ count_by (leb 1) ps
@@ -64,40 +58,28 @@ rising t a (suc n) i j l k = go (t a) i j (filter t (range_with_len (a + 1) n)) 
 
 -- what rises has each number once
 steady : (xs : List ℕ) → ((i j : ℕ) → i < j → j < length xs → get_or xs i 0 < get_or xs j 0) → (i j : ℕ) → i < length xs → j < length xs → get_or xs i 0 ≡ get_or xs j 0 → i ≡ j
-steady xs up i j a b e = go (cases_order i j)
-  where
-    go : (i ≡ j) ⊎ ((i < j) ⊎ (j < i)) → i ≡ j
-    go (inl h) = h
-    go (inr (inl h)) = absurd (omega (arith, up i j h b))
-    go (inr (inr h)) = absurd (omega (arith, up j i h a))
+steady xs up i j a b e =
+    ⊎_elim (λ h. h) (⊎_elim (λ h. absurd (omega (arith, up i j h b))) (λ h. absurd (omega (arith, up j i h a)))) (cases_order i j)
 
--- a token's processor stands among the processors
-listed : (x : Token) (ts : List Token) → In x ts → has x.processor (map (λ y. y.processor) ts) ≡ true
-listed x [] i = elim i [ ]
-listed x (t ∷ ts) here = or_left _ _ (eq-eqb x.processor x.processor refl)
-listed x (t ∷ ts) (there i) = or_right (eqb x.processor t.processor) _ (listed x ts i)
+-- what a map gives at a member stands in the mapped list
+pub map_has : {X : Type 0} (f : X → ℕ) {x : X} (xs : List X) → In x xs → has (f x) (map f xs) ≡ true
+map_has f [] i = elim i [ ]
+map_has f (x ∷ xs) here = or_left _ _ (eq-eqb (f x) (f x) refl)
+map_has f {x} (y ∷ xs) (there i) = or_right (eqb (f x) (f y)) _ (map_has f xs i)
 
 -- tokens on one processor are one
 alone : (x y : Token) (ts : List Token) → distinct (map (λ t. t.processor) ts) ≡ true → In x ts → In y ts → x.processor ≡ y.processor → (x.processor ≡ 0 → ⊥) → x.tag ≡ y.tag
 alone x y [] h i j e z = elim i [ ]
 alone x y (t ∷ ts) h here here e z = refl
-alone x y (t ∷ ts) h here (there j) e z =
-    let p = and_parts (eqb x.processor 0 || not (has x.processor (map (λ t. t.processor) ts))) (distinct (map (λ t. t.processor) ts)) h in
-    absurd (⊎_elim (λ a. z (eqb-true x.processor 0 a)) (λ a. both_ways _ (not-true _ a) (rw e (listed y ts j))) (or_cases _ _ p.0))
-alone x y (t ∷ ts) h (there i) here e z =
-    let p = and_parts (eqb y.processor 0 || not (has y.processor (map (λ t. t.processor) ts))) (distinct (map (λ t. t.processor) ts)) h in
-    absurd (⊎_elim (λ a. z (e ∙ eqb-true y.processor 0 a)) (λ a. both_ways _ (not-true _ a) (rw (← e) (listed x ts i))) (or_cases _ _ p.0))
-alone x y (t ∷ ts) h (there i) (there j) e z =
-    alone x y ts (and_parts (eqb t.processor 0 || not (has t.processor (map (λ t. t.processor) ts))) (distinct (map (λ t. t.processor) ts)) h).1 i j e z
+alone x y (t ∷ ts) h here (there j) e z = grind (arith, nat_tests, map_has (λ t. t.processor) ts j)
+alone x y (t ∷ ts) h (there i) here e z = grind (arith, nat_tests, map_has (λ t. t.processor) ts i)
+alone x y (t ∷ ts) h (there i) (there j) e z = alone x y ts (and_parts _ _ h).1 i j e z
 
 pub kept_in : {X : Type 0} (p : X → Bool) (x : X) (xs : List X) → In x xs → p x ≡ true → In x (filter p xs)
 kept_in p x [] i h = elim i [ ]
 kept_in p x (y ∷ xs) here h = subst (λ b. In x (cond b (x ∷ filter p xs) (filter p xs))) (sym h) here
-kept_in {X} p x (y ∷ xs) (there i) h = go (p y) (kept_in p x xs i h)
-  where
-    go : (b : Bool) {ks : List X} → In x ks → In x (cond b (y ∷ ks) ks)
-    go true k = there k
-    go false k = k
+kept_in p x (y ∷ xs) (there i) h =
+    let k = kept_in p x xs i h in cond_both (p y) (y ∷ filter p xs) (filter p xs) (In x) (λ e. there k) (λ e. k)
 
 module _ (m : ℕ) (picks : Token → Bool) (ts : List Token) where
   abbrev pub waits : Token → Bool
@@ -110,17 +92,7 @@ module _ (m : ℕ) (picks : Token → Bool) (ts : List Token) where
   both : (us : List Token) → count_by (leb 1) (map (λ y. y.processor) (filter picks us)) + count_by waits us ≤ count_by picks us
   both [] = omega arith
   both (x ∷ xs) =
-      omega (arith, count_cons waits x xs, count_cons picks x xs, both xs, go (picks x), one (picks x) x.processor)
-    where
-      go : (b : Bool) → count_by (leb 1) (map (λ y. y.processor) (cond b (x ∷ filter picks xs) (filter picks xs)))
-          ≡ bit (b && leb 1 x.processor) + count_by (leb 1) (map (λ y. y.processor) (filter picks xs))
-      go true = count_cons (leb 1) x.processor (map (λ y. y.processor) (filter picks xs))
-      go false = omega arith
-
-      one : (b : Bool) (p : ℕ) → bit (b && leb 1 p) + bit (b && eqb p 0) ≤ bit b
-      one true zero = omega arith
-      one true (suc p) = omega (arith, ap bit (ne_eqb (suc p) 0 (λ e. omega arith)), ap bit (le-leb 1 (suc p) (omega arith)))
-      one false p = omega arith
+      grind (arith, nat_tests, count_cons waits x xs, count_cons picks x xs, count_cons (leb 1) x.processor (map (λ y. y.processor) (filter picks xs)), both xs)
 
   room : count_by picks ts ≤ m → count_by waits ts ≤ length (free m picks ts)
   room c =
@@ -142,17 +114,15 @@ module _ (m : ℕ) (picks : Token → Bool) (ts : List Token) where
   in_turn : (x y : Token) → In x ts → waits x ≡ true → x.tag < y.tag → turn picks ts x < turn picks ts y
   in_turn x y i w l =
       count_lt (λ z. waits z && ltb z.tag x.tag) (λ z. waits z && ltb z.tag y.tag) ts
-      (λ z j h. let p = and_parts (waits z) (ltb z.tag x.tag) h in
-      and_from _ _ p.0 (lt-ltb z.tag y.tag (omega (arith, ltb-true z.tag x.tag p.1))))
+      (λ z j h. grind (arith, nat_tests))
       i (and_right _ _ (le-ltb x.tag x.tag (omega arith))) (and_from _ _ w (lt-ltb x.tag y.tag l))
 
   -- what a chosen token gets
   pub gets : (x : Token) → picks x ≡ true → ((x.processor ≡ 0) × (assigned m picks ts x ≡ get_or (free m picks ts) (turn picks ts x) 0)) ⊎ ((x.processor ≡ 0 → ⊥) × (assigned m picks ts x ≡ x.processor))
-  gets x h = go (cases_Bool (eqb x.processor 0))
-    where
-      go : (eqb x.processor 0 ≡ true) ⊎ (eqb x.processor 0 ≡ false) → ((x.processor ≡ 0) × (assigned m picks ts x ≡ get_or (free m picks ts) (turn picks ts x) 0)) ⊎ ((x.processor ≡ 0 → ⊥) × (assigned m picks ts x ≡ x.processor))
-      go (inl e) = inl (eqb-true x.processor 0 e, cond-true (picks x) _ _ h ∙ cond-true (eqb x.processor 0) _ _ e)
-      go (inr e) = inr (eqb-false x.processor 0 e, cond-true (picks x) _ _ h ∙ cond-false (eqb x.processor 0) _ _ e)
+  gets x h = ⊎_elim
+      (λ e. inl (eqb-true x.processor 0 e, cond-true (picks x) _ _ h ∙ cond-true (eqb x.processor 0) _ _ e))
+      (λ e. inr (eqb-false x.processor 0 e, cond-true (picks x) _ _ h ∙ cond-false (eqb x.processor 0) _ _ e))
+      (cases_Bool (eqb x.processor 0))
 
   module _ (c : count_by picks ts ≤ m) (low : (x : Token) → In x ts → x.processor ≤ m) (own : distinct (map (λ t. t.processor) ts) ≡ true) where
     pub its_turn : (x : Token) → In x ts → picks x ≡ true → x.processor ≡ 0 → turn picks ts x < length (free m picks ts)
@@ -170,22 +140,21 @@ module _ (m : ℕ) (picks : Token → Bool) (ts : List Token) where
     unused : (x y : Token) → In x ts → picks x ≡ true → x.processor ≡ 0 → In y ts → picks y ≡ true → get_or (free m picks ts) (turn picks ts x) 0 ≡ y.processor → ⊥
     unused x y i h z j k e =
         let a = All-get_or (λ p. not (has p held) ≡ true) (free m picks ts) (turn picks ts x) 0 (its_turn x i h z) (kept_by_passes (λ p. not (has p held)) (range_with_len 1 m)) in
-        let b = listed y (filter picks ts) (kept_in picks y ts j k) in
+        let b = map_has (λ t. t.processor) (filter picks ts) (kept_in picks y ts j k) in
         both_ways _ (not-true _ (subst (λ p. not (has p held) ≡ true) e a)) b
 
     pub own_processor : (x y : Token) → In x ts → In y ts → picks x ≡ true → picks y ≡ true → assigned m picks ts x ≡ assigned m picks ts y → x.tag ≡ y.tag
-    own_processor x y i j h k e = go (gets x h) (gets y k)
+    own_processor x y i j h k e = ⊎_elim
+        (λ a. ⊎_elim
+        (λ b. one_turn a.0 b.0 (steady (free m picks ts) (rising (λ p. not (has p held)) 1 m) (turn picks ts x) (turn picks ts y) (its_turn x i h a.0) (its_turn y j k b.0) (sym a.1 ∙ e ∙ b.1)))
+        (λ b. absurd (unused x y i h a.0 j k (sym a.1 ∙ e ∙ b.1))) (gets y k))
+        (λ a. ⊎_elim
+        (λ b. absurd (unused y x j k b.0 i h (sym b.1 ∙ sym e ∙ a.1)))
+        (λ b. alone x y ts own i j (sym a.1 ∙ e ∙ b.1) a.0) (gets y k))
+        (gets x h)
       where
         one_turn : (x.processor ≡ 0) → (y.processor ≡ 0) → turn picks ts x ≡ turn picks ts y → x.tag ≡ y.tag
         one_turn a b t = ⊎_elim (λ q. q)
             (⊎_elim (λ l. absurd (omega (arith, in_turn x y i (and_from _ _ h (eq-eqb x.processor 0 a)) l)))
             (λ l. absurd (omega (arith, in_turn y x j (and_from _ _ k (eq-eqb y.processor 0 b)) l))))
             (cases_order x.tag y.tag)
-
-        go : ((x.processor ≡ 0) × (assigned m picks ts x ≡ get_or (free m picks ts) (turn picks ts x) 0)) ⊎ ((x.processor ≡ 0 → ⊥) × (assigned m picks ts x ≡ x.processor))
-            → ((y.processor ≡ 0) × (assigned m picks ts y ≡ get_or (free m picks ts) (turn picks ts y) 0)) ⊎ ((y.processor ≡ 0 → ⊥) × (assigned m picks ts y ≡ y.processor)) → x.tag ≡ y.tag
-        go (inl a) (inl b) =
-            one_turn a.0 b.0 (steady (free m picks ts) (rising (λ p. not (has p held)) 1 m) (turn picks ts x) (turn picks ts y) (its_turn x i h a.0) (its_turn y j k b.0) (sym a.1 ∙ e ∙ b.1))
-        go (inl a) (inr b) = absurd (unused x y i h a.0 j k (sym a.1 ∙ e ∙ b.1))
-        go (inr a) (inl b) = absurd (unused y x j k b.0 i h (sym b.1 ∙ sym e ∙ a.1))
-        go (inr a) (inr b) = alone x y ts own i j (sym a.1 ∙ e ∙ b.1) a.0

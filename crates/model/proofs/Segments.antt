@@ -1,20 +1,21 @@
 -- The segment of a step: it has a length and fits a record.
-use Rattle.std.proofs.Common.{◌≡◌, ℕ, zero, suc, ◌+◌, ◌-◌, ◌^◌, ◌<◌, ◌≤◌, Bool, true, false, cond, not, ◌&&◌, eqb, leb, ◌⊎◌, List, [], ◌∷◌, map, drop, refl, ap, ◌∙◌, inl, inr, ⊎_elim, arith}
+use Rattle.std.proofs.Common.{◌≡◌, ℕ, zero, suc, ◌+◌, ◌-◌, ◌^◌, ◌<◌, ◌≤◌, Bool, true, false, cond, not, ◌&&◌, eqb, ◌⊎◌, List, [], ◌∷◌, map, drop, refl, ◌∙◌, inl, inr, ⊎_elim, arith}
 use Rattle.std.specs.List.{range_with_len, AllByRecursion}
 use Rattle.std.proofs.lemmas.List.FromFn.{length-map-range_with_len}
-use Rattle.std.proofs.lemmas.Bool.{and_from, or_cases, or_left, or_right, eq-eqb, ne_eqb, le-leb, cond_both, cond-false, cases_Bool, both_ways, not_from_false}
+use Rattle.std.proofs.lemmas.Bool.{and_from, or_cases, or_left, or_right, eq-eqb, ne_eqb, cond_both, cond-false, cases_Bool, not_from_false}
+use Rattle.std.proofs.lemmas.Bool.Decides.{nat_tests}
 use Rattle.rows.specs.declared.memory.Token.{Token}
-use Rattle.rows.specs.Limits.{most_processors, longest_span}
-use Rattle.rows.specs.Tests.{within, distinct, all, any}
+use Rattle.rows.specs.Limits.{longest_span}
+use Rattle.rows.specs.Tests.{distinct, all, any}
 use Rattle.rules.specs.Keys.{Key, Lawful}
-use Rattle.plan_file.specs.Records.{Segment, record_size}
+use Rattle.plan_file.specs.Records.{Segment}
 use Rattle.plan_file.specs.RoundTrip.{Below, Writable}
 use Rattle.model.specs.Steps.{chosen, distance, event, runner, row_of, step}
 use Rattle.model.specs.Members.{In, here, there}
-use Rattle.model.proofs.Distances.{at_most, attained, gap_picked, gap_other}
+use Rattle.model.proofs.Distances.{all_map, at_most, attained, gap_picked, gap_other}
 use Rattle.model.proofs.Bounds.{Sound, reach, has_length}
 use Rattle.model.proofs.Chosen.{fair}
-use Rattle.model.proofs.Stepping.{run_sound, row_distinct}
+use Rattle.model.proofs.Stepping.{step_sound, row_distinct}
 
 pub record Good (m : ℕ) (s : Segment) : Type 0 where
   pub long : 0 < s.units
@@ -28,15 +29,14 @@ any_in t (x ∷ xs) here h = or_left _ _ h
 any_in t (y ∷ xs) (there i) h = or_right (t y) _ (any_in t xs i h)
 
 pub any_of : {X : Type 0} (t : X → Bool) (xs : List X) → any t xs ≡ true → (x : X) × In x xs × (t x ≡ true)
-any_of t [] h = absurd (both_ways false refl h)
+any_of t [] h = cc
 any_of {X} t (x ∷ xs) h = ⊎_elim (λ e. (x, here, e)) (λ e. let s = any_of t xs e in (s.0, there s.1, s.2)) (or_cases (t x) (any t xs) h)
 
+pub none_of : {X : Type 0} (t : X → Bool) (xs : List X) → ((x : X) → In x xs → t x ≡ true → ⊥) → any t xs ≡ false
+none_of t xs h = ⊎_elim (λ e. let s = any_of t xs e in absurd (h s.0 s.1 s.2)) (λ e. e) (cases_Bool (any t xs))
+
 known : (z a b : Bool) → (z ≡ true) ⊎ ((a ≡ true) ⊎ (b ≡ true)) → (1 ≤ cond z 4 (cond a 1 0 + cond b 2 0)) × (cond z 4 (cond a 1 0 + cond b 2 0) ≤ 4)
-known true a b h = (omega arith, omega arith)
-known false true true h = (omega arith, omega arith)
-known false true false h = (omega arith, omega arith)
-known false false true h = (omega arith, omega arith)
-known false false false h = absurd (⊎_elim (both_ways false refl) (⊎_elim (both_ways false refl) (both_ways false refl)) h)
+known z a b h = (grind arith, grind arith)
 
 module _ (picks : Token → Bool) (span : ℕ) (ts : List Token) (low : (x : Token) → In x ts → x.left ≤ span) where
   abbrev d : ℕ
@@ -62,16 +62,6 @@ module _ (picks : Token → Bool) (span : ℕ) (ts : List Token) (low : (x : Tok
 
 -- The row fits a record.
 
-drop_counting : {X : Type 0} (f : ℕ → X) (a k n : ℕ) → drop k (map f (range_with_len a (k + n))) ≡ map f (range_with_len (a + k) n)
-drop_counting f a zero n =
-    let e : 0 + n ≡ n = omega arith in
-    let g : a ≡ a + 0 = omega arith in
-    ap (λ k. map f (range_with_len a k)) e ∙ ap (λ b. map f (range_with_len b n)) g
-drop_counting f a (suc k) n =
-    let e : suc k + n ≡ suc (k + n) = omega arith in
-    let g : a + 1 + k ≡ a + suc k = omega arith in
-    ap (λ j. drop (suc k) (map f (range_with_len a j))) e ∙ drop_counting f (a + 1) k n ∙ ap (λ b. map f (range_with_len b n)) g
-
 -- a runner's tag is that of a token, or 0
 short_runner : (us : List Token) (p : ℕ) → ((u : Token) → In u us → u.tag < 2 ^ 16) → runner us p < 2 ^ 16
 short_runner [] p h = omega arith
@@ -89,31 +79,21 @@ below_all b (x ∷ xs) pos h zero = h.0
 below_all b (x ∷ xs) pos h (suc i) = below_all b xs pos h.1 i
 
 module _ (m : ℕ) (us : List Token) (few : m ≤ 16) (on : (u : Token) → In u us → u.processor ≤ m) (tags : (u : Token) → In u us → u.tag < 2 ^ 16) where
-  short_row : (a n : ℕ) → AllByRecursion (λ t. t < 2 ^ 16) (map (runner us) (range_with_len a n))
-  short_row a zero = tt
-  short_row a (suc n) = (short_runner us a tags, short_row (a + 1) n)
-
-  empty_row : (a n : ℕ) → m < a → all (λ t. eqb t 0) (map (runner us) (range_with_len a n)) ≡ true
-  empty_row a zero l = refl
-  empty_row a (suc n) l =
-      and_from _ _ (eq-eqb (runner us a) 0 (no_runner us a (λ u i. omega (arith, on u i)))) (empty_row (a + 1) n (omega arith))
+  empty_row : (k a n : ℕ) → m < a + k → all (λ t. eqb t 0) (drop k (map (runner us) (range_with_len a n))) ≡ true
+  empty_row zero a zero l = refl
+  empty_row zero a (suc n) l =
+      and_from _ _ (eq-eqb (runner us a) 0 (no_runner us a (λ u i. omega (arith, on u i)))) (empty_row zero (a + 1) n (omega arith))
+  empty_row (suc k) a zero l = refl
+  empty_row (suc k) a (suc n) l = empty_row k (a + 1) n (omega arith)
 
   pub row_fits : (d k : ℕ) → 1 ≤ m → 0 < d → d ≤ longest_span → (1 ≤ k) × (k ≤ 4) → distinct (row_of us) ≡ true
       → Writable m (record { units = d; kind = k; row = row_of us })
   row_fits d k some long short known apart =
-      let sixteen : 16 ≡ m + (16 - m) = omega arith in
-      let back : drop m (row_of us) ≡ map (runner us) (range_with_len (1 + m) (16 - m)) =
-      ap (λ n. drop m (map (runner us) (range_with_len 1 n))) sixteen ∙ drop_counting (runner us) 1 m (16 - m) in
-      let e₁ : within 1 most_processors m ≡ true = and_from _ _ (le-leb 1 m some) (le-leb m most_processors few) in
-      let e₂ : within 1 longest_span d ≡ true = and_from _ _ (le-leb 1 d long) (le-leb d longest_span short) in
-      let e₃ : within 1 4 k ≡ true = and_from _ _ (le-leb 1 k known.0) (le-leb k 4 known.1) in
-      let e₄ : all (λ t. eqb t 0) (drop m (row_of us)) ≡ true = ap (all (λ t. eqb t 0)) back ∙ empty_row (1 + m) (16 - m) (omega arith) in
-      let e₅ : leb (record_size m) (record_size m) ≡ true = le-leb (record_size m) (record_size m) (omega arith) in
       record {
         places = length-map-range_with_len (runner us) 1 16;
-        tags = below_all (2 ^ 16) (row_of us) (omega arith) (short_row 1 16);
+        tags = below_all (2 ^ 16) (row_of us) (omega arith) (all_map (λ t. t < 2 ^ 16) (runner us) (range_with_len 1 16) (λ p i. short_runner us p tags));
         apart = apart;
-        faultless = rw (e₁, e₂, e₃, e₄, e₅) refl;
+        faultless = grind (arith, nat_tests, empty_row m 1 16 (omega arith));
       }
 
 pub step_good : (m : ℕ) (key : Key) → Lawful key → (span : ℕ) (ts : List Token) → Sound m span ts → 0 < span → span ≤ 2 ^ 54 → Good m (step m key span ts).segment
@@ -121,7 +101,7 @@ step_good m key law span ts ok some short =
     let picks = chosen m key span ts in
     let choice = fair m key law span ts ok some short in
     let d = distance picks span ts in
-    let s = run_sound m span ts ok picks choice d (reach picks span ts) in
+    let s = step_sound m key law span ts ok some short in
     let long = has_length m span ts ok picks choice some in
     record {
       long = long;

@@ -1,20 +1,20 @@
 -- A run keeps what is true of a plane's tokens, and its row has exactly the chosen ones.
-use Rattle.std.proofs.Common.{◌≡◌, ℕ, ◌+◌, ◌-◌, ◌^◌, ◌<◌, ◌≤◌, Bool, true, false, cond, not, ◌||◌, eqb, ltb, ◌⊎◌, List, [], ◌∷◌, map, sym, refl, ap, ◌∙◌, inl, inr, ⊎_elim, arith}
-use Rattle.std.proofs.lemmas.Bool.{and_parts, and_from, or_left, or_right, eq-eqb, cases_eq, cases_Bool, cond-false, not_from_false}
+use Rattle.std.proofs.Common.{◌≡◌, ℕ, ◌+◌, ◌-◌, ◌^◌, ◌<◌, ◌≤◌, Bool, true, false, cond, ltb, List, [], ◌∷◌, map, refl, ap, ⊎_elim, arith}
+pub use mathlib.Core.List.{map-map as map_map}
+use Rattle.std.proofs.lemmas.Bool.{and_parts, and_from, cases_eq, cond-false}
 use Rattle.rows.specs.declared.memory.Token.{Token}
 use Rattle.rows.specs.Tests.{has, distinct}
+use Rattle.rules.specs.Keys.{Key, Lawful}
 use Rattle.model.proofs.Tags.{increasing}
-use Rattle.model.specs.Steps.{moved, row_of, run}
+use Rattle.model.specs.Steps
+use Rattle.model.specs.Steps.{moved, row_of, run, chosen, distance}
 use Rattle.model.specs.Members.{In, here, there}
 use Rattle.model.proofs.Counts.{in_all}
 use Rattle.model.proofs.Order.{above, same_token}
-use Rattle.model.proofs.Bounds.{Sound, Choice, Reach, keeps}
+use Rattle.model.proofs.Bounds.{Sound, Choice, Reach, keeps, reach}
+use Rattle.model.proofs.Chosen.{fair}
 use Rattle.model.proofs.Processors.{numbered, own_processor}
-use Rattle.model.proofs.Runners.{has_map, row_apart, row_has, row_only}
-
-pub map_map : {X Y Z : Type 0} (g : Y → Z) (f : X → Y) (xs : List X) → map g (map f xs) ≡ map (λ x. g (f x)) xs
-map_map g f [] = refl
-map_map g f (x ∷ xs) = ap (λ l. g (f x) ∷ l) (map_map g f xs)
+use Rattle.model.proofs.Runners.{apart_from, row_apart, row_has, row_only}
 
 -- what holds of each image holds of each in the mapped list
 pub in_map : {X Y : Type 0} (P : Y → Type 0) (f : X → Y) (xs : List X) → ((x : X) → In x xs → P (f x)) → (y : Y) → In y (map f xs) → P y
@@ -35,17 +35,10 @@ distinct_processors : (low : ℕ) (us : List Token) → increasing low (map (λ 
 distinct_processors low [] h own = refl
 distinct_processors low (x ∷ xs) h own =
     let p = and_parts (ltb low x.tag) (increasing x.tag (map (λ t. t.tag) xs)) h in
-    and_from _ _ (go p.1 (cases_eq x.processor 0) (cases_Bool (has x.processor (map (λ t. t.processor) xs))))
+    and_from _ _
+    (apart_from (λ t. t.processor) x xs (λ y i e.
+    ⊎_elim (λ z. z) (λ z. absurd (omega (arith, own x y here (there i) e z, above x.tag xs p.1 y i))) (cases_eq x.processor 0)))
     (distinct_processors x.tag xs p.1 (λ u v i j. own u v (there i) (there j)))
-  where
-    go : increasing x.tag (map (λ t. t.tag) xs) ≡ true → (x.processor ≡ 0) ⊎ (x.processor ≡ 0 → ⊥)
-        → (has x.processor (map (λ t. t.processor) xs) ≡ true) ⊎ (has x.processor (map (λ t. t.processor) xs) ≡ false)
-        → (eqb x.processor 0 || not (has x.processor (map (λ t. t.processor) xs))) ≡ true
-    go up (inl z) r = or_left _ _ (eq-eqb x.processor 0 z)
-    go up (inr z) (inr f) = or_right (eqb x.processor 0) _ (not_from_false _ f)
-    go up (inr z) (inl t) =
-        let s = has_map (λ t. t.processor) x.processor xs t in
-        absurd (omega (arith, own x s.0 here (there s.1) s.2 z, above x.tag xs up s.0 s.1))
 
 module _ (m span : ℕ) (ts : List Token) (ok : Sound m span ts) (picks : Token → Bool) (choice : Choice m span ts picks) (d : ℕ) (to : Reach span ts picks d) where
   abbrev go_on : Token → Token
@@ -62,7 +55,7 @@ module _ (m span : ℕ) (ts : List Token) (ok : Sound m span ts) (picks : Token 
   other_off x h = cond-false (picks x) _ _ h
 
   pub after_on : (u : Token) → In u us → u.processor ≤ m
-  after_on = in_map (λ u. u.processor ≤ m) go_on ts (λ x i. ⊎_elim (λ h. (chosen_on x i h).1) (λ h. omega (arith, other_off x h)) (cases_Bool (picks x)))
+  after_on = in_map (λ u. u.processor ≤ m) go_on ts (λ x i. grind (arith, chosen_on x i, other_off x))
 
   pub after_tagged : increasing 0 (map (λ t. t.tag) us) ≡ true
   after_tagged = rw (map_map (λ x. x.tag) go_on ts) ok.tagged
@@ -74,11 +67,7 @@ module _ (m span : ℕ) (ts : List Token) (ok : Sound m span ts) (picks : Token 
       u i
     where
       meet : (x y : Token) → In x ts → In y ts → (go_on x).processor ≡ (go_on y).processor → ((go_on x).processor ≡ 0 → ⊥) → x.tag ≡ y.tag
-      meet x y i j e z = ⊎_elim
-          (λ h. ⊎_elim (λ k. own_processor m picks ts choice.most ok.on ok.own x y i j h k e)
-          (λ k. absurd (z (e ∙ other_off y k))) (cases_Bool (picks y)))
-          (λ h. absurd (z (other_off x h)))
-          (cases_Bool (picks x))
+      meet x y i j e z = grind (arith, own_processor m picks ts choice.most ok.on ok.own x y i j, other_off x, other_off y)
 
   pub one : (u v : Token) → In u us → In v us → u.tag ≡ v.tag → u.processor ≡ v.processor
   one u v i j e = ap (λ t. t.processor) (same_token 0 us after_tagged u v i j e)
@@ -99,22 +88,18 @@ module _ (m span : ℕ) (ts : List Token) (ok : Sound m span ts) (picks : Token 
 
   -- the row has the tag of a token exactly if it was chosen
   pub row_says : (x : Token) → In x ts → has x.tag (row_of us) ≡ picks x
-  row_says x i = ⊎_elim
-      (λ h. let on = chosen_on x i h in
-      row_has us unshared one (go_on x) (map_in go_on ts i) on.0 (omega (arith, on, ok.few)) ∙ sym h)
-      (λ h. ⊎_elim
-      (λ k. absurd (omega (arith, other_off x h, row_only us unshared one (go_on x) (map_in go_on ts i) (above 0 ts ok.tagged x i) k)))
-      (λ k. k ∙ sym h)
-      (cases_Bool (has x.tag (row_of us))))
-      (cases_Bool (picks x))
+  row_says x i =
+      let j = map_in go_on ts i in
+      grind (arith, chosen_on x i, other_off x, ok.few, row_has us unshared one (go_on x) j, row_only us unshared one (go_on x) j (above 0 ts ok.tagged x i))
 
   pub row_distinct : distinct (row_of us) ≡ true
   row_distinct = row_apart us unshared one
 
   -- a token falls by the run's length if the row has its tag
   pub falls_by : (x : Token) → In x ts → (go_on x).left + cond (has x.tag (row_of us)) d 0 ≡ x.left
-  falls_by x i = go (picks x) (row_says x i) (to.picked x i)
-    where
-      go : (b : Bool) → has x.tag (row_of us) ≡ b → (b ≡ true → d ≤ x.left) → cond b (x.left - d) x.left + cond (has x.tag (row_of us)) d 0 ≡ x.left
-      go true e h = omega (arith, h refl, ap (λ b. cond b d 0) e)
-      go false e h = omega (arith, ap (λ b. cond b d 0) e)
+  falls_by x i = grind (arith, row_says x i, to.picked x i)
+
+-- a step by a lawful key
+module _ (m : ℕ) (key : Key) (law : Lawful key) (span : ℕ) (ts : List Token) (ok : Sound m span ts) (some : 0 < span) (short : span ≤ 2 ^ 54) where
+  pub step_sound : Sound m (Steps.step m key span ts).span (Steps.step m key span ts).tokens
+  step_sound = run_sound m span ts ok (chosen m key span ts) (fair m key law span ts ok some short) _ (reach _ span ts)

@@ -1,8 +1,9 @@
 -- Keys that rise from above a bound, and what a filter keeps of them.
-use Rattle.std.proofs.Common.{◌≡◌, ℕ, ◌<◌, ◌≤◌, Bool, true, false, cond, ltb, ◌⊎◌, List, [], ◌∷◌, ◌++◌, map, filter, refl, inl, inr, ⊎_elim, arith}
-use Rattle.std.proofs.lemmas.Bool.{and_parts, and_from, ltb-true, lt-ltb}
+use Rattle.std.proofs.Common.{◌≡◌, ℕ, ◌<◌, ◌≤◌, Bool, true, ltb, ◌⊎◌, List, [], ◌∷◌, ◌++◌, map, filter, refl, ap, ◌∙◌, inl, inr, ⊎_elim, arith}
+use Rattle.std.proofs.lemmas.Bool.{and_parts, and_from, ltb-true, lt-ltb, cond_both}
 use Rattle.rows.specs.Tests.{rising}
 use Rattle.model.specs.Members.{In, here, there}
+use Rattle.model.proofs.Counts.{in_cons, in_first}
 
 -- each is above the one before, and the first above `low`
 abbrev pub increasing : ℕ → List ℕ → Bool
@@ -29,19 +30,15 @@ module _ {X : Type 0} (f : X → ℕ) where
   above low (y ∷ xs) h x here = ltb-true low (f x) (and_parts _ _ h).0
   above low (y ∷ xs) h x (there i) =
       let p = and_parts (ltb low (f y)) (increasing (f y) (map f xs)) h in
-      let a = ltb-true low (f y) p.0 in
-      let b = above (f y) xs p.1 x i in
-      omega arith
+      omega (arith, ltb-true low (f y) p.0, above (f y) xs p.1 x i)
 
   pub kept_increasing : (p : X → Bool) (low : ℕ) (xs : List X) → increasing low (map f xs) ≡ true → increasing low (map f (filter p xs)) ≡ true
   kept_increasing p low [] up = refl
   kept_increasing p low (x ∷ xs) up =
       let h = and_parts (ltb low (f x)) (increasing (f x) (map f xs)) up in
-      go (p x) h.0 (kept_increasing p (f x) xs h.1)
-    where
-      go : (b : Bool) → ltb low (f x) ≡ true → increasing (f x) (map f (filter p xs)) ≡ true → increasing low (map f (cond b (x ∷ filter p xs) (filter p xs))) ≡ true
-      go true a again = and_from _ _ a again
-      go false a again = let l = ltb-true low (f x) a in lower low (f x) (map f (filter p xs)) (omega arith) again
+      let again = kept_increasing p (f x) xs h.1 in
+      cond_both (p x) (x ∷ filter p xs) (filter p xs) (λ ys. increasing low (map f ys) ≡ true) (λ e. and_from _ _ h.0 again)
+      (λ e. let l = ltb-true low (f x) h.0 in lower low (f x) (map f (filter p xs)) (omega arith) again)
 
   -- one between those below it and those above it
   pub joined_increasing : (low : ℕ) (xs : List X) (y : X) (zs : List X) → increasing low (map f xs) ≡ true → ((x : X) → In x xs → f x < f y) → low < f y
@@ -55,15 +52,10 @@ module _ {X : Type 0} (f : X → ℕ) where
 module _ {X : Type 0} (p : X → Bool) where
   pub in_kept : (u : X) (xs : List X) → In u (filter p xs) → In u xs × (p u ≡ true)
   in_kept u [] i = elim i [ ]
-  in_kept u (x ∷ xs) i = go (p x) refl (in_kept u xs) i
-    where
-      first : p x ≡ true → (v : X) → In v (x ∷ filter p xs) → (In v (filter p xs) → In v xs × (p v ≡ true)) → In v (x ∷ xs) × (p v ≡ true)
-      first e v here again = (here, e)
-      first e v (there j) again = let k = again j in (there k.0, k.1)
-
-      go : (b : Bool) → p x ≡ b → (In u (filter p xs) → In u xs × (p u ≡ true)) → In u (cond b (x ∷ filter p xs) (filter p xs)) → In u (x ∷ xs) × (p u ≡ true)
-      go true e again i = first e u i again
-      go false e again i = let k = again i in (there k.0, k.1)
+  in_kept u (x ∷ xs) i =
+      let again : In u (filter p xs) → In u (x ∷ xs) × (p u ≡ true) = λ i. let k = in_kept u xs i in (there k.0, k.1) in
+      cond_both (p x) (x ∷ filter p xs) (filter p xs) (λ ys. In u ys → In u (x ∷ xs) × (p u ≡ true))
+      (λ e i. ⊎_elim (λ q. (in_first u x xs q, ap p q ∙ e)) again (in_cons u x (filter p xs) i)) (λ e. again) i
 
   pub kept_all : (xs : List X) → ((x : X) → In x xs → p x ≡ true) → filter p xs ≡ xs
   kept_all [] h = refl

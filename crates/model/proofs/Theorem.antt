@@ -1,9 +1,8 @@
 -- What holds after every run.
-use Rattle.std.proofs.Common.{◌≡◌, ℕ, ◌-◌, ◌*◌, ◌/◌, ◌%◌, ◌^◌, ◌<◌, ◌≤◌, List, [], ◌∷◌, take, Ok, refl, ap, ◌∙◌, subst, ⊎_elim, arith}
+use Rattle.std.proofs.Common.{◌≡◌, ℕ, ◌-◌, ◌*◌, ◌/◌, ◌%◌, ◌^◌, ◌<◌, ◌≤◌, List, [], ◌∷◌, take, Ok, refl, ap, ◌∙◌, subst, arith}
 use native.Mathlib.Nat.{dvd_of_mod-eq-zero, mul-div_cancel', mul-div_assoc}
 use Rattle.std.specs.List.{AllByRecursion}
 use Rattle.std.proofs.ByRecursion.{All-weaker}
-use Rattle.std.proofs.lemmas.Bool.{cases_lt}
 use Rattle.rows.specs.declared.memory.Task.{Task}
 use Rattle.rows.specs.declared.memory.Token.{Token}
 use Rattle.model.specs.State.{Rest, Open, opened}
@@ -48,7 +47,7 @@ module _ (p : Open) (m : Memory) (h : List Event) (o : Inv (running p m h)) wher
   over_in_time : OverInTime p m.tokens h
   over_in_time = (
     o.slow.most,
-    (λ e. ⊎_elim (λ pos. absurd (omega (arith, o.slow.going pos, e))) (λ z. omega arith) (cases_lt 0 p.span)),
+    (λ e. grind (arith, o.slow.going)),
     (λ z. all_in (λ x. x.left ≡ 0) ks (λ x i. omega (arith, o.sound.low x i, z))),
   )
 

@@ -1,12 +1,13 @@
 -- Those who have no processor take the lowest free ones, in order of tag.
 use Rattle.std.proofs.Common.{◌≡◌, ℕ, zero, suc, ◌<◌, ◌≤◌, Bool, true, false, not, ◌&&◌, eqb, ltb, ◌⊎◌, List, [], ◌∷◌, map, length, get_or, count_by, filter, sym, refl, ap, ◌∙◌, inl, inr, ⊎_elim, arith}
 use Rattle.std.specs.List.{range_with_len}
-use Rattle.std.proofs.lemmas.Bool.{and_parts, and_from, and_left, and_right, ltb-true, lt-ltb, le-ltb, eqb-true, eq-eqb, cases_lt, cases_Bool, cond-true, not_from_false}
+use Rattle.std.proofs.lemmas.Bool.{and_parts, and_from, and_right, le-ltb, eqb-true, eq-eqb, cases_lt, cases_order, cases_Bool, cond-true, not_from_false}
+use Rattle.std.proofs.lemmas.Bool.Decides.{nat_tests}
 use Rattle.rows.specs.declared.memory.Token.{Token}
 use Rattle.rows.specs.Tests.{has, distinct}
 use Rattle.model.specs.Steps.{free, turn, assigned}
 use Rattle.model.specs.Members.{In, here, there}
-use Rattle.model.proofs.Counts.{bit, count_cons, count_none, count_le}
+use Rattle.model.proofs.Counts.{count_cons, count_none, count_le}
 use Rattle.model.proofs.Tags.{increasing, above, in_kept}
 use Rattle.model.proofs.Processors.{waits, held, gets, numbered, early, rising, kept_in}
 use Rattle.model.proofs.Runners.{has_map, counted}
@@ -21,7 +22,7 @@ index_of x (y ∷ xs) (there i) = let s = index_of x xs i in (suc s.0, omega (ar
 turn_of : (w : Token → Bool) (low : ℕ) (ts : List Token) → increasing low (map (λ t. t.tag) ts) ≡ true → (j : ℕ) → j < count_by w ts
     → (y : Token) × In y ts × (w y ≡ true) × (count_by (λ z. w z && ltb z.tag y.tag) ts ≡ j)
 turn_of w low [] up j l = absurd (omega arith)
-turn_of w low (t ∷ ts) up j l = go (w t) refl j l (turn_of w t.tag ts (and_parts (ltb low t.tag) (increasing t.tag (map (λ t. t.tag) ts)) up).1)
+turn_of w low (t ∷ ts) up j l = go (w t) refl j l (turn_of w t.tag ts over)
   where
     over : increasing t.tag (map (λ t. t.tag) ts) ≡ true
     over = (and_parts (ltb low t.tag) (increasing t.tag (map (λ t. t.tag) ts)) up).1
@@ -36,17 +37,12 @@ turn_of w low (t ∷ ts) up j l = go (w t) refl j l (turn_of w t.tag ts (and_par
         none z here = and_right _ _ (le-ltb z.tag z.tag (omega arith))
         none z (there i) = and_right _ _ (le-ltb z.tag t.tag (omega (arith, above (λ t. t.tag) t.tag ts over z i)))
     go true e (suc j) l again =
-        let c : bit (w t) ≡ 1 = ap bit e in
-        let s = again j (omega (arith, count_cons w t ts, c)) in
+        let s = again j (grind (arith, count_cons w t ts, e)) in
         let y = s.0 in
-        let one : bit (w t && ltb t.tag y.tag) ≡ 1 = ap bit (and_from _ _ e (lt-ltb t.tag y.tag (above (λ t. t.tag) t.tag ts over y s.1))) in
-        (y, there s.1, s.2, omega (arith, count_cons (λ z. w z && ltb z.tag y.tag) t ts, one, s.3))
+        (y, there s.1, s.2, grind (arith, nat_tests, count_cons (λ z. w z && ltb z.tag y.tag) t ts, e, above (λ t. t.tag) t.tag ts over y s.1, s.3))
     go false e j l again =
-        let c : bit (w t) ≡ 0 = ap bit e in
-        let s = again j (omega (arith, count_cons w t ts, c)) in
-        let y = s.0 in
-        let none : bit (w t && ltb t.tag y.tag) ≡ 0 = ap bit (and_left (w t) (ltb t.tag y.tag) e) in
-        (y, there s.1, s.2, omega (arith, count_cons (λ z. w z && ltb z.tag y.tag) t ts, none, s.3))
+        let s = again j (grind (arith, count_cons w t ts, e)) in
+        (s.0, there s.1, s.2, grind (arith, count_cons (λ z. w z && ltb z.tag s.0.tag) t ts, e, s.3))
 
 module _ (m : ℕ) (picks : Token → Bool) (ts : List Token) (tagged : increasing 0 (map (λ t. t.tag) ts) ≡ true)
     (c : count_by picks ts ≤ m) (low : (x : Token) → In x ts → x.processor ≤ m) (own : distinct (map (λ t. t.processor) ts) ≡ true) where
@@ -71,27 +67,17 @@ module _ (m : ℕ) (picks : Token → Bool) (ts : List Token) (tagged : increasi
           let open-one : In q (free m picks ts) = kept_in (λ p. not (has p (held m picks ts))) q (range_with_len 1 m) (counted q 1 m l (omega arith)) (not_from_false _ f) in
           let s = index_of q (free m picks ts) open-one in
           let sooner : s.0 < turn picks ts x =
-          ⊎_elim (λ a. a) (λ a. absurd (later s.0 s.2 s.1 a)) (cases_lt s.0 (turn picks ts x)) in
+          ⊎_elim (λ e. absurd (omega (arith, g.1, s.2, ap (λ k. get_or (free m picks ts) k 0) e))) (⊎_elim (λ a. a)
+          (λ a. absurd (omega (arith, g.1, s.2, rising (λ p. not (has p (held m picks ts))) 1 m (turn picks ts x) s.0 a s.1))))
+          (cases_order s.0 (turn picks ts x)) in
           let last = early m picks ts x i (and_from _ _ h (eq-eqb x.processor 0 z)) in
           let t = turn_of (waits m picks ts) 0 ts tagged s.0 (omega arith) in
           let y = t.0 in
           let p = and_parts (picks y) (eqb y.processor 0) t.2 in
           let gets-it : assigned m picks ts y ≡ q =
           cond-true (picks y) _ _ p.0 ∙ cond-true (eqb y.processor 0) _ _ p.1 ∙ ap (λ k. get_or (free m picks ts) k 0) t.3 ∙ s.2 in
-          (y, t.1, p.0, gets-it, inr (eqb-true y.processor 0 p.1, before_it y t.1 t.2 (omega (arith, t.3))))
+          (y, t.1, p.0, gets-it, inr (eqb-true y.processor 0 p.1, ⊎_elim (λ a. a) (λ a. absurd (omega (arith, t.3, fewer y a))) (cases_lt y.tag x.tag)))
         where
-          later : (k : ℕ) → get_or (free m picks ts) k 0 ≡ q → k < length (free m picks ts) → turn picks ts x ≤ k → ⊥
-          later k e b a = ⊎_elim
-              (λ lt. omega (arith, g.1, rising (λ p. not (has p (held m picks ts))) 1 m (turn picks ts x) k lt b))
-              (λ ge. let same : turn picks ts x ≡ k = omega arith in omega (arith, g.1, ap (λ k. get_or (free m picks ts) k 0) same))
-              (cases_lt (turn picks ts x) k)
-
           fewer : (y : Token) → x.tag ≤ y.tag → turn picks ts x ≤ turn picks ts y
           fewer y a = count_le (λ z. waits m picks ts z && ltb z.tag x.tag) (λ z. waits m picks ts z && ltb z.tag y.tag) ts
-              (λ z k e. let p = and_parts (waits m picks ts z) (ltb z.tag x.tag) e in
-              and_from _ _ p.0 (lt-ltb z.tag y.tag (omega (arith, ltb-true z.tag x.tag p.1))))
-
-          before_it : (y : Token) → In y ts → waits m picks ts y ≡ true → turn picks ts y < turn picks ts x → y.tag < x.tag
-          before_it y j w lt = ⊎_elim (λ a. a)
-              (λ a. absurd (omega (arith, fewer y a)))
-              (cases_lt y.tag x.tag)
+              (λ z k e. grind (arith, nat_tests))

@@ -6,6 +6,7 @@ use Rattle.rows.specs.declared.memory.Task.{Task}
 use Rattle.rows.specs.declared.memory.Token.{Token}
 use Rattle.rows.specs.Limits.{most_tasks, last_tick}
 use Rattle.rows.specs.Tests.{has, rising, all}
+pub use Rattle.rows.specs.Releases.{next_release}
 use Rattle.model.specs.State.{Rest, Open, unless}
 
 -- the units of its processor that a task takes in each tick
@@ -82,11 +83,7 @@ withdrawn b memory tag =
           (Ok (with_load b (b.count - 1) (b.load - weight b.scale t), without tag rows ++ zeros ∷ drop b.count memory))
     ])
 
--- the first release of a task after a tick that is not before its first
-abbrev pub next_release : ℕ → Task → ℕ
-next_release tick t = t.release + ((tick - t.release) / t.period + 1) * t.period
-
--- the earliest of them
+-- the earliest release after a tick that is before no task's first
 abbrev pub earliest : ℕ → List Task → ℕ
 earliest tick [] = tick
 earliest tick (t ∷ []) = next_release tick t
