@@ -1,26 +1,17 @@
 -- Memory that fits a board is a table whose releases can be listed.
-use Rattle.std.proofs.Common.{◌≡◌, ℕ, Bool, true, ◌&&◌, ltb, leb, List, [], ◌∷◌, length, take, Ok, Result, sym, refl, ◌∙◌, arith}
+use Rattle.std.proofs.Common.{◌≡◌, ℕ, Bool, true, ◌&&◌, ltb, leb, List, length, take, Ok, Result, sym, ◌∙◌}
 use Rattle.std.proofs.lemmas.List.{length-take-le}
-use Rattle.std.proofs.lemmas.Bool.{and_parts, and_from}
-use Rattle.std.proofs.lemmas.Bool.Decides.{nat_tests}
+use Rattle.std.proofs.lemmas.Bool.{and_from}
 use Rattle.rows.specs.declared.memory.Task.{Task}
 use Rattle.rows.specs.declared.refusal.Refusal.{Refusal}
 use Rattle.rows.specs.declared.refusal.Refusal.TheVariants.{Memory, NoTask, Places}
 use Rattle.rows.specs.Tests.{rising, all}
 use Rattle.model.specs.State.{Rest, unless}
-use Rattle.model.specs.Tables.{tags, sound_task, tasks_fit}
+use Rattle.model.specs.Tables.{tags, tasks_fit}
 use Rattle.ahead.specs.Ahead.{timely, most_places, answer_ahead}
 use Rattle.planner.specs.Upcoming.{upcoming_answer}
+use Rattle.planner.proofs.Releases.{sound_timely}
 use Rattle.planner.proofs.Withdrawals.{fit_parts}
-
-sound_timely : (b : Rest) (t : Task) → sound_task b t ≡ true → timely b.tick t ≡ true
-sound_timely b t h = grind (arith, nat_tests)
-
-all_timely : (b : Rest) (ts : List Task) → all (sound_task b) ts ≡ true → all (timely b.tick) ts ≡ true
-all_timely b [] h = refl
-all_timely b (t ∷ ts) h =
-    let p = and_parts (sound_task b t) (all (sound_task b) ts) h in
-    and_from (timely b.tick t) (all (timely b.tick) ts) (sound_timely b t p.0) (all_timely b ts p.1)
 
 -- the same answer, by the board's own tests
 pub fits_answer : (b : Rest) (ts : List Task) (memory places : ℕ) → tasks_fit b ts ≡ true → answer_ahead (take b.count ts) b.tick memory places ≡ upcoming_answer b ts memory places
@@ -28,7 +19,7 @@ fits_answer b ts memory places fits =
     let parts = fit_parts b ts fits in
     let rows = take b.count ts in
     let long = length-take-le b.count ts parts.there in
-    let ok : (rising (tags rows) && all (timely b.tick) rows) ≡ tasks_fit b ts = and_from _ _ parts.sorted (all_timely b rows parts.sound) ∙ sym fits in
+    let ok : (rising (tags rows) && all (timely b.tick) rows) ≡ tasks_fit b ts = and_from _ _ parts.sorted (sound_timely b rows parts.sound) ∙ sym fits in
     by (Ok tt) (length rows) b.count (rising (tags rows) && all (timely b.tick) rows) (tasks_fit b ts) long ok
   where
     by : (r : Result (Unit {0}) Refusal) (k n : ℕ) (c d : Bool) → k ≡ n → c ≡ d

@@ -1,7 +1,6 @@
 -- Processors that are given among the same tokens, and rows of the same tokens.
-use Rattle.std.proofs.Common.{◌≡◌, ℕ, ◌+◌, ◌-◌, ◌<◌, ◌≤◌, Bool, not, ◌&&◌, eqb, ltb, ◌⊎◌, List, map, length, get_or, count_by, filter, sym, refl, ap, ◌∙◌, inl, inr, arith}
+use Rattle.std.proofs.Common.{◌≡◌, ℕ, ◌+◌, ◌-◌, ◌<◌, ◌≤◌, Bool, not, ◌&&◌, eqb, ltb, ◌⊎◌, List, map, get_or, count_by, filter, sym, ap, ◌∙◌, inl, inr, arith}
 use Rattle.std.specs.List.{range_with_len}
-use Rattle.std.proofs.lemmas.List.FromFn.{length-map-range_with_len, get_or-map-range_with_len}
 use Rattle.std.proofs.lemmas.List.{ext_get_or}
 use Rattle.rows.specs.declared.memory.Token.{Token}
 use Rattle.rows.specs.Tests.{has}
@@ -10,6 +9,7 @@ use Rattle.model.specs.Members.{In}
 use Rattle.model.proofs.Tags.{kept_same}
 use Rattle.model.proofs.Runners.{from, row_at}
 use Rattle.model.proofs.Stepping.{Unshared}
+use Rattle.planner.proofs.Seats.{row_length, row_place}
 use Rattle.planner.proofs.Tallies.{count_kept, has_count}
 
 -- chosen tokens with the same processors leave the same ones free
@@ -26,14 +26,6 @@ free_same m picks picks' ts us same =
     ∙ sym (count_kept (λ x. eqb p x.processor) picks' us))
     ∙ sym (has_count p (λ x. x.processor) (filter picks' us))))
 
--- a row has 16 places
-pub row_length : (us : List Token) → length (row_of us) ≡ 16
-row_length us = length-map-range_with_len (runner us) 1 16
-
--- the place of a processor has its runner
-row_place : (us : List Token) (k : ℕ) → k < 16 → get_or (row_of us) k 0 ≡ runner us (1 + k)
-row_place us k h = get_or-map-range_with_len (runner us) 1 16 k (1 + k) 0 h refl
-
 -- no two tokens of one tag are on two processors
 abbrev pub One : List Token → Type 0
 One us = (u v : Token) → In u us → In v us → u.tag ≡ v.tag → u.processor ≡ v.processor
@@ -42,7 +34,7 @@ One us = (u v : Token) → In u us → In v us → u.tag ≡ v.tag → u.process
 pub row_like : (us vs : List Token) → ((u : Token) → In u us → In u vs) → ((v : Token) → In v vs → 1 ≤ v.processor → In v us)
     → Unshared vs → One vs → row_of us ≡ row_of vs
 row_like us vs part all own one = ext_get_or 0 (row_of us) (row_of vs) (row_length us ∙ sym (row_length vs))
-    (λ k h. let low : k < 16 = omega (arith, row_length us) in row_place us k low ∙ go k low (from us own' us (1 + k)) ∙ sym (row_place vs k low))
+    (λ k h. let low : k < 16 = omega (arith, row_length us) in row_place us k 0 low ∙ go k low (from us own' us (1 + k)) ∙ sym (row_place vs k 0 low))
   where
     own' : Unshared us
     own' u v i j = own u v (part u i) (part v j)
@@ -53,7 +45,7 @@ row_like us vs part all own one = ext_get_or 0 (row_of us) (row_of vs) (row_leng
     at_place : (ws : List Token) → Unshared ws → One ws → (k : ℕ) → k < 16 → (u : Token) → In u ws → u.processor ≡ 1 + k → runner ws (1 + k) ≡ u.tag
     at_place ws own one k low u i e =
         let p : u.processor - 1 ≡ k = omega arith in
-        sym (row_place ws k low) ∙ ap (λ n. get_or (row_of ws) n 0) (sym p) ∙ row_at ws own one u i (omega arith) (omega arith)
+        sym (row_place ws k 0 low) ∙ ap (λ n. get_or (row_of ws) n 0) (sym p) ∙ row_at ws own one u i (omega arith) (omega arith)
 
     other : (k : ℕ) → k < 16 → runner us (1 + k) ≡ 0 → (runner vs (1 + k) ≡ 0) ⊎ ((v : Token) × In v vs × (v.processor ≡ 1 + k) × (runner vs (1 + k) ≡ v.tag)) → runner us (1 + k) ≡ runner vs (1 + k)
     other k low z (inl y) = z ∙ sym y

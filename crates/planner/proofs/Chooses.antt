@@ -1,8 +1,7 @@
 -- A lawful choice over sound tokens can be run.
-use Rattle.std.proofs.Common.{◌≡◌, ℕ, ◌+◌, ◌-◌, ◌^◌, ◌<◌, ◌≤◌, min, Bool, true, false, cond, not, eqb, ltb, List, [], ◌∷◌, map, get_or, filter, sym, refl, ap, ◌∙◌, inl, inr, arith, eq-eqb, ne_eqb}
+use Rattle.std.proofs.Common.{◌≡◌, ℕ, ◌+◌, ◌-◌, ◌<◌, ◌≤◌, min, Bool, true, false, cond, not, eqb, ltb, List, map, get_or, filter, sym, refl, ap, ◌∙◌, inl, inr, arith, eq-eqb, ne_eqb}
 use Rattle.std.proofs.lemmas.Bool.{cases_lt, cases_eq, lt-ltb, le-ltb}
 use Rattle.std.specs.List.{range_with_len, AllByRecursion}
-use Rattle.std.proofs.ByRecursion.{All-weaker}
 use Rattle.rows.specs.declared.memory.Token.{Token}
 use Rattle.rows.specs.Tests.{has, distinct}
 use Rattle.rules.specs.Keys.{Key, Lawful}
@@ -10,16 +9,18 @@ use Rattle.model.specs.Steps.{free, assigned, chosen, distance, event, moved}
 use Rattle.model.proofs.Bounds.{Sound, reach}
 use Rattle.model.proofs.Chosen.{fair, at_most_m}
 use Rattle.model.proofs.Counts.{all_in}
-use Rattle.model.proofs.Processors.{numbered, within}
+use Rattle.model.proofs.Processors.{numbered}
 use Rattle.model.proofs.Stepping.{run_sound, map_map}
-use Rattle.model.proofs.Tags.{rises}
+use Rattle.model.proofs.Tags.{rises, kept_same}
+use Rattle.planner.specs.Runs.{Ready}
 use Rattle.planner.specs.Looking.{least_left, most_left, nearest_kind, Runnable}
+use Rattle.planner.proofs.Tallies.{in_counting}
 use Rattle.planner.proofs.Distances.{distance_is, event_is, most_at_most}
 
 pub on_processors : (m span : ℕ) (ts : List Token) → Sound m span ts → AllByRecursion (λ x. x.processor ≤ 16) ts
 on_processors m span ts ok = all_in (λ x. x.processor ≤ 16) ts (λ x i. omega (arith, ok.on x i, ok.few))
 
-module _ (m : ℕ) (key : Key) (law : Lawful key) (span : ℕ) (ts : List Token) (ok : Sound m span ts) (some : 0 < span) (short : span ≤ 2 ^ 54) where
+module _ (key : Key) (law : Lawful key) {m span : ℕ} {ts : List Token} (ready : Ready m span ts) where
   abbrev picks : Token → Bool
   picks = chosen m key span ts
 
@@ -29,27 +30,27 @@ module _ (m : ℕ) (key : Key) (law : Lawful key) (span : ℕ) (ts : List Token)
   pub runnable : (spare : List ℕ) → ((k : ℕ) → get_or spare k 0 ≡ get_or (free m picks ts) k 0) → Runnable m picks far spare ts
   runnable spare is =
       let to = reach picks span ts in
-      let after = run_sound m span ts ok picks (fair m key law span ts ok some short) far to in
+      let after = run_sound m span ts ready.sound picks (fair m key law span ts ready.sound ready.some ready.short) far to in
       record {
-        few = ok.few;
-        sorted = rises 0 (map (λ t. t.tag) ts) ok.tagged;
+        few = ready.sound.few;
+        sorted = rises 0 (map (λ t. t.tag) ts) ready.sound.tagged;
         reach = all_in (λ x. picks x ≡ true → far ≤ x.left) ts (λ x i p. to.picked x i p);
         numbered = all_in (λ x. picks x ≡ true → (1 ≤ assigned m picks ts x) × (assigned m picks ts x ≤ m)) ts
-            (λ x i p. numbered m picks ts (at_most_m m key span ts ok) ok.on ok.own x i p);
+            (λ x i p. numbered m picks ts (at_most_m m key span ts ready.sound) ready.sound.on ready.sound.own x i p);
         apart = ap distinct (sym (map_map (λ (t : Token). t.processor) (moved m picks ts far) ts)) ∙ after.own;
         spare_is = is;
       }
 
-  module _ (least most : ℕ) (least_is : least ≡ least_left picks span ts) (most_is : most ≡ most_left picks ts) where
+  module _ {least most : ℕ} (least_is : least ≡ least_left picks span ts) (most_is : most ≡ most_left picks ts) where
     pub most_low : most ≤ span
-    most_low = omega (arith, most_is, most_at_most picks span ts ok.low)
+    most_low = omega (arith, most_is, most_at_most picks span ts ready.sound.low)
 
     pub far_is : min least (span - most) ≡ far
     far_is = (λ j. min (least_is j) (span - most_is j)) ∙ sym (distance_is picks span ts)
 
     named : event picks far (span - far) ts ≡ cond (eqb (span - far) 0) 4 (cond (eqb least far) 1 0 + cond (eqb most (span - far)) 2 0)
     named =
-        event_is picks span far (span - far) ts refl refl ok.low
+        event_is picks span far (span - far) ts refl refl ready.sound.low
         ∙ (λ j. cond (eqb (span - far) 0) 4 (cond (eqb (sym least_is j) far) 1 0 + cond (eqb (sym most_is j) (span - far)) 2 0))
 
     ends_plane : span - far ≡ 0 → 4 ≡ event picks far (span - far) ts
@@ -92,16 +93,10 @@ module _ (m : ℕ) (key : Key) (law : Lawful key) (span : ℕ) (ts : List Token)
               ]
         ]
 
--- tests that agree keep the same
-kept_same : {X : Type 0} (t u : X → Bool) (xs : List X) → AllByRecursion (λ x. t x ≡ u x) xs → filter t xs ≡ filter u xs
-kept_same t u [] h = refl
-kept_same t u (x ∷ xs) h = λ j. cond (h.0 j) (x ∷ kept_same t u xs h.1 j) (kept_same t u xs h.1 j)
-
 -- the processors that are not marked are the free ones
 pub unmarked : (m : ℕ) (picks : Token → Bool) (ts : List Token) (taken : List Bool) → m ≤ 16
     → ((p : ℕ) → p < 17 → get_or taken p false ≡ has p (map (λ x. x.processor) (filter picks ts)))
     → filter (λ p. not (get_or taken p false)) (range_with_len 1 m) ≡ free m picks ts
 unmarked m picks ts taken few is =
     kept_same (λ p. not (get_or taken p false)) (λ p. not (has p (map (λ (x : Token). x.processor) (filter picks ts)))) (range_with_len 1 m)
-    (All-weaker (λ p. (1 ≤ p) × (p < 1 + m)) (λ p. not (get_or taken p false) ≡ not (has p (map (λ (x : Token). x.processor) (filter picks ts))))
-    (λ p h. ap not (is p (omega (arith, h.1)))) (range_with_len 1 m) (within 1 m))
+    (λ p i. ap not (is p (omega (arith, in_counting p 1 m i))))

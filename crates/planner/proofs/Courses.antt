@@ -11,9 +11,10 @@ use Rattle.plan_file.specs.Records.{Segment, record_size, record_bytes, records_
 use Rattle.plan_file.specs.Writing.{write_fault}
 use Rattle.model.specs.Steps.{step}
 use Rattle.model.specs.Planes.{steps}
-use Rattle.model.proofs.Finishes.{Going, step_going}
+use Rattle.model.proofs.Finishes.{Going, first, step_going}
 use Rattle.model.proofs.Readback.{length_record}
 use Rattle.model.proofs.Segments.{Good, step_good}
+use Rattle.planner.specs.Runs.{Finishes, RunsOut}
 use Rattle.planner.specs.Segments.{written}
 
 abbrev Done : Type 0
@@ -48,11 +49,6 @@ behind_push made s more = ap (λ l. (l, more.1, more.2)) (sym (append_assoc made
 pub fault_free : (m : ℕ) (s : Segment) (room : ℕ) → write_fault m s (record_size m) ≡ None → record_size m ≤ room → write_fault m s room ≡ None
 fault_free m s room f h = grind (arith, nat_tests)
 
--- so the writer answers where the next one goes
-pub appended : (m : ℕ) (s seg : Segment) (room next : ℕ) (r : Result ℕ Refusal) → seg ≡ s → write_fault m s room ≡ None
-    → r ≡ answered (write_fault m seg room) next → r ≡ Ok next
-appended m s seg room next r same none told = told ∙ ap (λ x. answered (write_fault m x room) next) same ∙ ap (λ f. answered f next) none
-
 -- one more record behind those that are written
 more_text : (m : ℕ) (made : List Segment) (s : Segment) (buffer plan : List ℕ) (at : ℕ) → at ≡ length (records_bytes m made)
     → length (record_bytes m s) ≡ record_size m → plan ≡ written m made buffer
@@ -76,91 +72,100 @@ more_text m made s buffer plan at at-is long is =
 length_written : (m : ℕ) (ss : List Segment) (buffer : List ℕ) → length (records_bytes m ss) ≤ length buffer → length (written m ss buffer) ≡ length buffer
 length_written m ss buffer h = length-append (records_bytes m ss) (drop (length (records_bytes m ss)) buffer) ∙ omega (arith, length-drop (length (records_bytes m ss)) buffer)
 
-module _ (m : ℕ) (key : Key) (law : Lawful key) (n span : ℕ) (ts : List Token) (buffer : List ℕ) where
+module _ (m : ℕ) (key : Key) (law : Lawful key) (span : ℕ) (ts : List Token) (buffer : List ℕ) where
   pub record Course (left : ℕ) (rows : List Token) (plan : List ℕ) (count at : ℕ) : Type 0 where
     pub made : List Segment
-    pub going : Going m n left rows (length made)
-    pub rest : steps (n + 1) m key span ts ≡ behind made (steps (n + 1 - length made) m key left rows)
+    pub going : Going m (length ts) left rows (length made)
+    pub rest : steps (length ts + 1) m key span ts ≡ behind made (steps (length ts + 1 - length made) m key left rows)
     pub sized : length (records_bytes m made) ≡ length made * record_size m
     pub text : plan ≡ written m made buffer
     pub counted : count ≡ length made
     pub placed : at ≡ length (records_bytes m made)
 
-  pub course_none : Going m n span ts 0 → Course span ts buffer 0 0
-  course_none g =
-      let all : n + 1 ≡ n + 1 - 0 = omega arith in
+module _ {m : ℕ} {key : Key} {law : Lawful key} {span : ℕ} {ts : List Token} {buffer : List ℕ} where
+  pub course_is : {left left' : ℕ} {rows rows' : List Token} {plan : List ℕ} {count at at' : ℕ} → left' ≡ left → rows' ≡ rows → at' ≡ at
+      → Course m key law span ts buffer left rows plan count at → Course m key law span ts buffer left' rows' plan count at'
+  course_is {plan} {count} a b c h = transport (λ j. Course m key law span ts buffer (sym a j) (sym b j) plan count (sym c j)) h
+
+  -- nothing is left: all steps are made
+  pub runs_out : {left : ℕ} {rows after : List Token} {plan : List ℕ} {count at : ℕ} → left ≤ 0 → after ≡ rows → Course m key law span ts buffer left rows plan count at
+      → RunsOut m key span ts buffer after plan (record { steps = count; bytes = at })
+  runs_out {left} {rows} {after} {plan} {count} {at} over same now =
+      let none : 0 ≡ left = omega arith in
+      let was : Course m key law span ts buffer 0 rows plan count at = course_is none refl refl now in
+      let ss = was.made in
+      let all : steps (length ts + 1) m key span ts ≡ (ss, 0, rows) =
+      was.rest ∙ ap (behind ss) (none_more (length ts + 1 - length ss) m key rows) ∙ ap (λ l. (l, 0, rows)) (append-nil ss) in
       record {
-        made = [];
-        going = g;
-        rest = ap (λ k. steps k m key span ts) all ∙ behind_none (steps (n + 1 - 0) m key span ts);
-        sized = omega arith;
-        text = refl;
-        counted = refl;
-        placed = refl;
+        rows = same ∙ ap (λ (d : Done). d.2) (sym all);
+        plan_is = was.text ∙ ap (λ (d : Done). written m d.0 buffer) (sym all);
+        steps_are = was.counted ∙ ap (λ (d : Done). length d.0) (sym all);
+        bytes_are = was.placed ∙ ap (λ (d : Done). length (records_bytes m d.0)) (sym all);
       }
 
-  module _ (left : ℕ) (rows : List Token) (plan : List ℕ) (count at : ℕ) (fits : (n + 1) * record_size m ≤ length buffer) (some : 0 < left) (was : Course left rows plan count at) where
-    abbrev s : Segment
-    s = (step m key left rows).segment
-
-    good : Good m s
-    good = step_good m key law left rows was.going.sound some was.going.short
-
-    going_on : length was.made ≤ n
-    going_on = omega (arith, was.going.slow.going some)
-
-    enough : (length was.made + 1) * record_size m ≤ length buffer
-    enough = omega (arith, fits, mul-le-mul_right {m = length was.made + 1} {n = n + 1} (record_size m) (omega (arith, going_on)))
-
-    long : length plan ≡ length buffer
-    long = ap length was.text ∙ length_written m was.made buffer (omega (arith, was.sized, enough))
-
-    pub room : at + record_size m ≤ length plan
-    room = omega (arith, long, enough, was.sized, was.placed)
-
-    pub writes : write_fault m s (length plan - at) ≡ None
-    writes = fault_free m s (length plan - at) good.fits.faultless (omega (arith, room))
-
-    pub falls : 0 < s.units
-    falls = good.long
-
-    pub more : (plan' : List ℕ) → plan' ≡ (take at plan ++ record_bytes m s) ++ drop (at + record_size m) plan
-        → Course (step m key left rows).span (step m key left rows).tokens plan' (count + 1) (at + record_size m)
-    more plan' wrote =
-        let made = was.made in
-        let next = steps (n - length made) m key (step m key left rows).span (step m key left rows).tokens in
-        let size = length_record m s good.fits in
-        let one-longer : length (made ++ s ∷ []) ≡ length made + 1 = length-append made (s ∷ []) in
-        let bytes : length (records_bytes m (made ++ s ∷ [])) ≡ length (records_bytes m made) + record_size m =
-        ap length (records_push m made s) ∙ length-append (records_bytes m made) (record_bytes m s) ∙ ap (λ k. length (records_bytes m made) + k) size in
-        let fuel : n + 1 - length made ≡ suc (n - length made) = omega (arith, going_on) in
-        let left_over : n - length made ≡ n + 1 - length (made ++ s ∷ []) = omega (arith, one-longer) in
-        let count-is : suc (length made) ≡ length (made ++ s ∷ []) = omega (arith, one-longer) in
+  module _ (fits : Finishes m span ts buffer) where
+    pub course_none : Course m key law span ts buffer span ts buffer 0 0
+    course_none =
+        let all : length ts + 1 ≡ length ts + 1 - 0 = omega arith in
         record {
-          made = made ++ s ∷ [];
-          going = subst (Going m n (step m key left rows).span (step m key left rows).tokens) count-is (step_going m key law n left rows (length made) some was.going);
-          rest = was.rest ∙ ap (λ k. behind made (steps k m key left rows)) fuel ∙ ap (behind made) (one_more (n - length made) m key left rows some)
-              ∙ behind_push made s next
-              ∙ ap (λ k. behind (made ++ s ∷ []) (steps k m key (step m key left rows).span (step m key left rows).tokens)) left_over;
-          sized = bytes ∙ omega (arith, was.sized, ap (λ k. k * record_size m) one-longer);
-          text = wrote ∙ more_text m made s buffer plan at was.placed size was.text;
-          counted = ap (λ k. k + 1) was.counted ∙ sym one-longer;
-          placed = ap (λ k. k + record_size m) was.placed ∙ sym bytes;
+          made = [];
+          going = first m (length ts) span ts refl fits.sound fits.short key law;
+          rest = ap (λ k. steps k m key span ts) all ∙ behind_none (steps (length ts + 1 - 0) m key span ts);
+          sized = omega arith;
+          text = refl;
+          counted = refl;
+          placed = refl;
         }
 
-  pub course_over : (rows : List Token) (plan : List ℕ) (count at : ℕ) → Course 0 rows plan count at
-      → (rows ≡ (steps (n + 1) m key span ts).2) × (plan ≡ written m (steps (n + 1) m key span ts).0 buffer)
-      × (count ≡ length (steps (n + 1) m key span ts).0) × (at ≡ length (records_bytes m (steps (n + 1) m key span ts).0))
-  course_over rows plan count at was =
-      let ss = was.made in
-      let all : steps (n + 1) m key span ts ≡ (ss, 0, rows) =
-      was.rest ∙ ap (behind ss) (none_more (n + 1 - length ss) m key rows) ∙ ap (λ l. (l, 0, rows)) (append-nil ss) in (
-        ap (λ (d : Done). d.2) (sym all),
-        was.text ∙ ap (λ (d : Done). written m d.0 buffer) (sym all),
-        was.counted ∙ ap (λ (d : Done). length d.0) (sym all),
-        was.placed ∙ ap (λ (d : Done). length (records_bytes m d.0)) (sym all),
-      )
+    module _ {left : ℕ} {rows : List Token} {plan : List ℕ} {count at : ℕ} (some : 0 < left) (was : Course m key law span ts buffer left rows plan count at) where
+      abbrev s : Segment
+      s = (step m key left rows).segment
 
-  pub course_is : {left left' : ℕ} {rows rows' : List Token} {plan : List ℕ} {count at at' : ℕ} → left' ≡ left → rows' ≡ rows → at' ≡ at
-      → Course left rows plan count at → Course left' rows' plan count at'
-  course_is {plan} {count} a b c h = transport (λ j. Course (sym a j) (sym b j) plan count (sym c j)) h
+      good : Good m s
+      good = step_good m key law left rows was.going.sound some was.going.short
+
+      going_on : length was.made ≤ length ts
+      going_on = omega (arith, was.going.slow.going some)
+
+      enough : (length was.made + 1) * record_size m ≤ length buffer
+      enough = omega (arith, fits.room, mul-le-mul_right {m = length was.made + 1} {n = length ts + 1} (record_size m) (omega (arith, going_on)))
+
+      long : length plan ≡ length buffer
+      long = ap length was.text ∙ length_written m was.made buffer (omega (arith, was.sized, enough))
+
+      pub room : at + record_size m ≤ length plan
+      room = omega (arith, long, enough, was.sized, was.placed)
+
+      writes : write_fault m s (length plan - at) ≡ None
+      writes = fault_free m s (length plan - at) good.fits.faultless (omega (arith, room))
+
+      -- so the writer answers where the next record goes
+      pub appended : {seg : Segment} {r : Result ℕ Refusal} → seg ≡ s → r ≡ answered (write_fault m seg (length plan - at)) (at + record_size m) → r ≡ Ok (at + record_size m)
+      appended same told = told ∙ ap (λ x. answered (write_fault m x (length plan - at)) (at + record_size m)) same ∙ ap (λ f. answered f (at + record_size m)) writes
+
+      pub falls : 0 < s.units
+      falls = good.long
+
+      pub more : (plan' : List ℕ) → plan' ≡ (take at plan ++ record_bytes m s) ++ drop (at + record_size m) plan
+          → Course m key law span ts buffer (step m key left rows).span (step m key left rows).tokens plan' (count + 1) (at + record_size m)
+      more plan' wrote =
+          let made = was.made in
+          let next = steps (length ts - length made) m key (step m key left rows).span (step m key left rows).tokens in
+          let size = length_record m s good.fits in
+          let one-longer : length (made ++ s ∷ []) ≡ length made + 1 = length-append made (s ∷ []) in
+          let bytes : length (records_bytes m (made ++ s ∷ [])) ≡ length (records_bytes m made) + record_size m =
+          ap length (records_push m made s) ∙ length-append (records_bytes m made) (record_bytes m s) ∙ ap (λ k. length (records_bytes m made) + k) size in
+          let fuel : length ts + 1 - length made ≡ suc (length ts - length made) = omega (arith, going_on) in
+          let left_over : length ts - length made ≡ length ts + 1 - length (made ++ s ∷ []) = omega (arith, one-longer) in
+          let count-is : suc (length made) ≡ length (made ++ s ∷ []) = omega (arith, one-longer) in
+          record {
+            made = made ++ s ∷ [];
+            going = subst (Going m (length ts) (step m key left rows).span (step m key left rows).tokens) count-is (step_going m key law (length ts) left rows (length made) some was.going);
+            rest = was.rest ∙ ap (λ k. behind made (steps k m key left rows)) fuel ∙ ap (behind made) (one_more (length ts - length made) m key left rows some)
+                ∙ behind_push made s next
+                ∙ ap (λ k. behind (made ++ s ∷ []) (steps k m key (step m key left rows).span (step m key left rows).tokens)) left_over;
+            sized = bytes ∙ omega (arith, was.sized, ap (λ k. k * record_size m) one-longer);
+            text = wrote ∙ more_text m made s buffer plan at was.placed size was.text;
+            counted = ap (λ k. k + 1) was.counted ∙ sym one-longer;
+            placed = ap (λ k. k + record_size m) was.placed ∙ sym bytes;
+          }

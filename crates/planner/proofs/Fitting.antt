@@ -1,5 +1,5 @@
 -- Token memory that fits, as a step and a finish need it.
-use Rattle.std.proofs.Common.{◌≡◌, ℕ, ◌+◌, ◌*◌, ◌^◌, ◌<◌, ◌≤◌, true, List, ◌++◌, length, take, drop, Ok, Result, sym, refl, ◌∙◌, subst, arith, lt-ltb, le-leb}
+use Rattle.std.proofs.Common.{◌≡◌, ℕ, ◌+◌, ◌*◌, ◌^◌, ◌<◌, ◌≤◌, true, List, [], ◌∷◌, ◌++◌, length, take, drop, Ok, Result, sym, refl, ◌∙◌, subst, arith, lt-ltb, le-leb}
 use Rattle.std.specs.List.{AllByRecursion}
 use Rattle.std.proofs.lemmas.List.{length-take-le}
 use Rattle.std.proofs.lemmas.Bool.Decides.{nat_tests}
@@ -9,8 +9,8 @@ use Rattle.rules.specs.Keys.{Key}
 use Rattle.plan_file.specs.Records.{records_bytes, record_size}
 use Rattle.model.specs.Answers.{ChangesAnswering}
 use Rattle.model.specs.State.{Open}
-use Rattle.model.specs.Steps.{step}
-use Rattle.model.specs.Planes.{tokens_fit, with_span, stepped, steps, finished}
+use Rattle.rows.specs.Tests.{all}
+use Rattle.model.specs.Planes.{sound_token, tokens_fit, with_span, steps, finished}
 use Rattle.model.proofs.Bounds.{Sound}
 use Rattle.planner.specs.Segments.{written}
 use Rattle.model.proofs.Counts.{in_all}
@@ -22,16 +22,18 @@ sound_rows p memory k k-is some few short fits =
     subst (λ n. Sound p.board.processors p.span (take n memory)) (sym k-is)
     (fit_sound p memory some few (λ x i. in_all (λ x. x.tag < 2 ^ 16) short i) fits).1
 
+-- no sound row has a processor that no board has
+pub on_board : (p : Open) (rows : List Token) → p.board.processors ≤ 16 → all (sound_token p) rows ≡ true → AllByRecursion (λ x. x.processor ≤ 16) rows
+on_board p [] few ok = tt
+on_board p (x ∷ xs) few ok =
+    let first : x.processor ≤ 16 = grind (arith, nat_tests) in
+    let rest : all (sound_token p) xs ≡ true = grind (arith, nat_tests) in
+    (first, on_board p xs few rest)
+
 -- a change that was made and answered as it is defined
 pub answered_as : {S A B : Type 0} (view : A → B) (before after : S) (r : Result (S × B) Refusal) (s : S) (b : B) (a : A)
     → r ≡ Ok (s, b) → after ≡ s → view a ≡ b → ChangesAnswering view before r (Ok a) after
 answered_as view before after r s b a is same told = subst (λ d. ChangesAnswering view before d (Ok a) after) (sym is) (same, told)
-
-pub step_accepted : (p : Open) (memory : List Token) (key : Key) → 0 < p.span → tokens_fit p memory ≡ true
-    → let n = p.board.count in
-    let s = step p.board.processors key p.span (take n memory) in
-    stepped p memory key ≡ Ok ((with_span p s.span, s.tokens ++ drop n memory, s.segment.row), (s.segment.units, s.segment.kind))
-step_accepted p memory key some fits = rw (lt-ltb 0 p.span some, fits) refl
 
 pub finish_accepted : (p : Open) (memory : List Token) (key : Key) (buffer : List ℕ) → 0 < p.span → tokens_fit p memory ≡ true
     → (p.board.count + 1) * record_size p.board.processors ≤ length buffer

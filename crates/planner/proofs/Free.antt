@@ -25,9 +25,6 @@ module _ (test : ℕ → Bool) where
     pub long : length (passed i) ≡ count
     pub few : count ≤ i
 
-  pub filled_none : Filled 0 (replicate 16 0) 0
-  filled_none = record { is = refl; long = refl; few = omega arith }
-
   pub filled_more : (i count : ℕ) (free : List ℕ) → i < 16 → test (i + 1) ≡ true → Filled i free count → Filled (i + 1) (set free count (i + 1)) (count + 1)
   filled_more i count free low pass f =
       let more : passed (i + 1) ≡ passed i ++ (i + 1) ∷ [] = passed_more i ∙ ap (λ b. passed i ++ cond b ((i + 1) ∷ []) []) pass in

@@ -1,7 +1,6 @@
 pub mod Weights
 pub mod Marks
 pub mod Shifts
-pub mod Admissions
 pub mod Withdrawals
 pub mod Releases
 pub mod Writes

@@ -2,13 +2,11 @@
 use Rattle.std.proofs.Common.{◌≡◌, ℕ, ◌+◌, ◌<◌, ◌≤◌, min, max, Bool, true, false, cond, List, [], ◌∷◌, ◌++◌, map, length, get_or, take, drop, set, replicate, filter, sym, refl, ap, ◌∙◌, subst, arith}
 use mathlib.Core.Path.{transport}
 use Rattle.std.proofs.lemmas.List.Elements.{filter_more}
-use Rattle.std.proofs.lemmas.List.{at_drop_more, at_drop_all, append-nil, map-append, length-set, take_all}
+use Rattle.std.proofs.lemmas.List.{at_drop_more, append-nil, map-append, length-set}
 use Rattle.rows.specs.declared.memory.Token.{Token}
+use Rattle.planner.specs.Lining.{no_token}
 use Rattle.planner.specs.Looking.{least_left, most_left}
 use Rattle.planner.proofs.Marks.{Marks, marks_none, marks_push}
-
-abbrev pub blank : Token
-blank = record { tag = 0; left = 0; processor = 0 }
 
 abbrev pub processors : List Token → List ℕ
 processors = map (λ x. x.processor)
@@ -31,11 +29,12 @@ module _ (picks : Token → Bool) (span : ℕ) (rows : List Token) where
     pub low : min least (least_left picks span (drop i rows)) ≡ least_left picks span rows
     pub high : max most (most_left picks (drop i rows)) ≡ most_left picks rows
 
+module _ {picks : Token → Bool} {span : ℕ} {rows : List Token} where
   pub seen_is : {i : ℕ} {taken taken' : List Bool} {least least' most most' : ℕ} → taken' ≡ taken → least' ≡ least → most' ≡ most
-      → Seen i taken least most → Seen i taken' least' most'
-  seen_is {i} a b c h = transport (λ j. Seen i (sym a j) (sym b j) (sym c j)) h
+      → Seen picks span rows i taken least most → Seen picks span rows i taken' least' most'
+  seen_is {i} a b c h = transport (λ j. Seen picks span rows i (sym a j) (sym b j) (sym c j)) h
 
-  pub seen_none : Seen 0 (replicate 17 false) span 0
+  pub seen_none : Seen picks span rows 0 (replicate 17 false) span 0
   seen_none = record {
     size = refl;
     marks = marks_none 17;
@@ -44,20 +43,20 @@ module _ (picks : Token → Bool) (span : ℕ) (rows : List Token) where
     high = omega arith;
   }
 
-  module _ (i : ℕ) (taken : List Bool) (least most : ℕ) (inside : i < length rows) (was : Seen i taken least most) where
+  module _ {i : ℕ} {taken : List Bool} {least most : ℕ} (was : Seen picks span rows i taken least most) (inside : i < length rows) where
     abbrev x : Token
-    x = get_or rows i blank
+    x = get_or rows i no_token
 
     next_least : least_left picks span (drop i rows) ≡ cond (picks x) (min x.left (least_left picks span (drop (i + 1) rows))) (least_left picks span (drop (i + 1) rows))
-    next_least = at_drop_more (least_left picks span) rows i blank inside
+    next_least = at_drop_more (least_left picks span) rows i no_token inside
 
     next_most : most_left picks (drop i rows) ≡ cond (picks x) (most_left picks (drop (i + 1) rows)) (max x.left (most_left picks (drop (i + 1) rows)))
-    next_most = at_drop_more (most_left picks) rows i blank inside
+    next_most = at_drop_more (most_left picks) rows i no_token inside
 
     next_kept : processors (filter picks (take (i + 1) rows)) ≡ processors (filter picks (take i rows)) ++ processors (cond (picks x) (x ∷ []) [])
-    next_kept = ap processors (filter_more picks rows i blank inside) ∙ map-append (λ (t : Token). t.processor) (filter picks (take i rows)) (cond (picks x) (x ∷ []) [])
+    next_kept = ap processors (filter_more picks rows i no_token inside) ∙ map-append (λ (t : Token). t.processor) (filter picks (take i rows)) (cond (picks x) (x ∷ []) [])
 
-    pub seen_chosen : picks x ≡ true → x.processor < 17 → Seen (i + 1) (set taken x.processor true) (min least x.left) most
+    pub seen_chosen : picks x ≡ true → x.processor < 17 → Seen picks span rows (i + 1) (set taken x.processor true) (min least x.left) most
     seen_chosen yes-chosen on = record {
       size = length-set taken x.processor true ∙ was.size;
       marks = subst (Marks (set taken x.processor true))
@@ -68,7 +67,7 @@ module _ (picks : Token → Bool) (span : ℕ) (rows : List Token) where
       high = omega (arith, was.high, next_most ∙ ap (λ b. cond b (most_left picks (drop (i + 1) rows)) (max x.left (most_left picks (drop (i + 1) rows)))) yes-chosen);
     }
 
-    pub seen_other : picks x ≡ false → Seen (i + 1) taken least (max most x.left)
+    pub seen_other : picks x ≡ false → Seen picks span rows (i + 1) taken least (max most x.left)
     seen_other not-Chosen = record {
       size = was.size;
       marks = subst (Marks taken)
@@ -78,17 +77,3 @@ module _ (picks : Token → Bool) (span : ℕ) (rows : List Token) where
       low = omega (arith, was.low, next_least ∙ ap (λ b. cond b (min x.left (least_left picks span (drop (i + 1) rows))) (least_left picks span (drop (i + 1) rows))) not-Chosen);
       high = omega (arith, was.high, next_most ∙ ap (λ b. cond b (most_left picks (drop (i + 1) rows)) (max x.left (most_left picks (drop (i + 1) rows)))) not-Chosen);
     }
-
-  module _ (i : ℕ) (taken : List Bool) (least most : ℕ) (all : length rows ≤ i) (was : Seen i taken least most) where
-    pub seen_marks : Marks taken (processors (filter picks rows))
-    seen_marks = subst (λ l. Marks taken (processors (filter picks l))) (take_all i rows all) was.marks
-
-    pub seen_least : least ≡ least_left picks span rows
-    seen_least =
-        let none : least_left picks span (drop i rows) ≡ span = at_drop_all (least_left picks span) rows i all in
-        omega (arith, was.low, was.bound)
-
-    pub seen_most : most ≡ most_left picks rows
-    seen_most =
-        let none : most_left picks (drop i rows) ≡ 0 = at_drop_all (most_left picks) rows i all in
-        omega (arith, was.high)

@@ -1,7 +1,9 @@
 -- A list of marks tells which numbers stand in a list, so that a number that stands twice is seen.
-use Rattle.std.proofs.Common.{◌≡◌, ℕ, ◌<◌, Bool, true, false, not, ◌&&◌, ◌||◌, eqb, List, [], ◌∷◌, ◌++◌, length, get_or, set, replicate, refl, ap, ⊎_elim, true≢false, arith, eq-eqb, ne_eqb}
+use Rattle.std.proofs.Common.{◌≡◌, ℕ, ◌<◌, Bool, true, false, not, ◌&&◌, ◌||◌, eqb, List, [], ◌∷◌, ◌++◌, length, get_or, set, replicate, sym, refl, ap, ◌∙◌, ⊎_elim, true≢false, arith, eq-eqb, ne_eqb}
+use Rattle.std.proofs.Math.Bool.{or_comm}
 use Rattle.std.proofs.Permutation.{which}
 use Rattle.std.proofs.lemmas.List.{get_or-set_same, get_or-set_other, get_or-replicate, length-replicate, length-set}
+use Rattle.std.proofs.lemmas.Bool.{or_left}
 use Rattle.std.proofs.lemmas.Bool.Decides.{nat_tests}
 use Rattle.rows.specs.Tests.{has, distinct}
 
@@ -35,10 +37,12 @@ distinct_not (x ∷ xs) ys h = by (distinct xs) refl (distinct_not xs ys)
 pub marks_none : (n : ℕ) → Marks (replicate n false) []
 marks_none n p h = get_or-replicate n p false false (omega (arith, length-replicate n false))
 
-pub marks_push : (marks : List Bool) (xs : List ℕ) (q : ℕ) → q < length marks → Marks marks xs → Marks (set marks q true) (xs ++ q ∷ [])
-marks_push marks xs q within is p h =
-    let there = has_push p q xs in
+pub marks_more : (taken : List Bool) (xs : List ℕ) (q : ℕ) → q < length taken → (p : ℕ) → get_or taken p false ≡ has p xs → get_or (set taken q true) p false ≡ has p (q ∷ xs)
+marks_more taken xs q within p is =
     ⊎_elim
-    (λ (e : p ≡ q). let m = get_or-set_same marks q true false within in let k = eq-eqb p q e in let same : get_or (set marks q true) p false ≡ get_or (set marks q true) q false = ap (λ i. get_or (set marks q true) i false) e in grind (arith, nat_tests))
-    (λ (e : p ≡ q → ⊥). let m = get_or-set_other marks q p true false e in let k = ne_eqb p q e in let was = is p (omega (arith, length-set marks q true)) in grind (arith, nat_tests))
+    (λ (e : p ≡ q). ap (λ i. get_or (set taken q true) i false) e ∙ get_or-set_same taken q true false within ∙ sym (or_left _ _ (eq-eqb p q e)))
+    (λ (e : p ≡ q → ⊥). get_or-set_other taken q p true false e ∙ is ∙ ap (λ b. b || has p xs) (sym (ne_eqb p q e)))
     (which p q)
+
+pub marks_push : (marks : List Bool) (xs : List ℕ) (q : ℕ) → q < length marks → Marks marks xs → Marks (set marks q true) (xs ++ q ∷ [])
+marks_push marks xs q within is p h = marks_more marks xs q within p (is p (omega (arith, length-set marks q true))) ∙ or_comm (eqb p q) (has p xs) ∙ sym (has_push p q xs)

@@ -1,11 +1,11 @@
 -- Running the chosen tokens row by row.
-use Rattle.std.proofs.Common.{◌≡◌, ℕ, zero, suc, ◌+◌, ◌-◌, ◌<◌, ◌≤◌, Bool, true, false, cond, not, ◌&&◌, eqb, ltb, List, [], ◌∷◌, ◌++◌, map, length, get_or, take, drop, set, replicate, count_by, filter, sym, refl, ap, ◌∙◌, subst, ⊎_elim, arith, le-ltb, lt-ltb, eq-eqb, ne_eqb}
+use Rattle.std.proofs.Common.{◌≡◌, ℕ, zero, suc, ◌+◌, ◌-◌, ◌<◌, ◌≤◌, Bool, true, false, cond, not, ◌&&◌, eqb, ltb, List, [], ◌∷◌, ◌++◌, map, length, get_or, take, drop, set, count_by, filter, sym, refl, ap, ◌∙◌, subst, ⊎_elim, arith, le-ltb, lt-ltb, eq-eqb, ne_eqb}
 use mathlib.Core.Path.{transport}
 use Rattle.std.specs.List.{range_with_len}
 use Rattle.std.proofs.Permutation.{which}
-use Rattle.std.proofs.lemmas.List.FromFn.{length-map-range_with_len, get_or-map-range_with_len, length-range_with_len}
+use Rattle.std.proofs.lemmas.List.FromFn.{length-range_with_len}
 use Rattle.std.proofs.ByRecursion.{All-get_or}
-use Rattle.std.proofs.lemmas.List.{take_more, take_all, drop_all, drop_more, get_or_at, length-map, length-take-le, append-nil, map-append, length-set, get_or-set_same, get_or-set_other, get_or_past, same_lists, take-append-drop}
+use Rattle.std.proofs.lemmas.List.{take_more, drop_more, get_or_at, length-map, length-take-le, map-append, length-set, get_or-set_same, get_or-set_other, get_or_past, same_lists, take-append-drop}
 use Rattle.std.proofs.lemmas.List.Sums.{length-filter, count_by-le-length, count_by_more_yes, count_by_more_no}
 use Rattle.std.proofs.lemmas.Bool.{cases_lt}
 use Rattle.std.proofs.lemmas.Bool.Decides.{nat_tests}
@@ -16,7 +16,9 @@ use Rattle.model.proofs.Counts.{bit, count_cons}
 use Rattle.model.proofs.Stepping.{map_map}
 use Rattle.model.specs.Steps.{free, turn, assigned, moved, runner, row_of}
 use Rattle.planner.specs.Looking.{Runnable}
-use Rattle.planner.proofs.Looks.{blank, processors}
+use Rattle.planner.specs.Lining.{no_token}
+use Rattle.planner.proofs.Looks.{processors}
+use Rattle.planner.proofs.Seats.{row_length, row_place}
 use Rattle.planner.proofs.Marks.{distinct_push, distinct_not}
 use Rattle.planner.proofs.Writes.{map_more}
 
@@ -44,12 +46,6 @@ runner_kept us u q other =
     by : (b : Bool) → has q (processors us) ≡ b → cond b (runner us q) 0 ≡ runner us q
     by true e = refl
     by false e = sym (runner_none us q e)
-
-row_length : (us : List Token) → length (row_of us) ≡ 16
-row_length us = length-map-range_with_len (runner us) 1 16
-
-row_place : (us : List Token) (k : ℕ) (d : ℕ) → k < 16 → get_or (row_of us) k d ≡ runner us (1 + k)
-row_place us k d h = get_or-map-range_with_len (runner us) 1 16 k (1 + k) d h refl
 
 -- one more token, on a processor that none before it has
 pub row_more : (us : List Token) (u : Token) (p : ℕ) → u.processor ≡ p → 1 ≤ p → p ≤ 16 → has p (processors us) ≡ false
@@ -90,26 +86,26 @@ row_same us u none = same_lists _ _ (row_length us ∙ sym (row_length (us ++ u 
 abbrev tag_of : Token → ℕ
 tag_of t = t.tag
 
-count_none_above : (test : Token → Bool) (tag : ℕ) (xs : List Token) → rising (map (λ t. t.tag) xs) ≡ true → (0 < length xs → tag ≤ (get_or xs 0 blank).tag)
+count_none_above : (test : Token → Bool) (tag : ℕ) (xs : List Token) → rising (map (λ t. t.tag) xs) ≡ true → (0 < length xs → tag ≤ (get_or xs 0 no_token).tag)
     → count_by (λ y. test y && ltb y.tag tag) xs ≡ 0
 count_none_above test tag [] h f = refl
 count_none_above test tag (x ∷ xs) h f =
     let first : tag ≤ x.tag = f (omega arith) in
-    let rest = rising_rest tag_of blank x xs h in
+    let rest = rising_rest tag_of no_token x xs h in
     let low : ltb x.tag tag ≡ false = le-ltb x.tag tag first in
     let out : (test x && ltb x.tag tag) ≡ false = grind (arith, nat_tests) in
     let more = count_none_above test tag xs rest.0 (λ some. omega (arith, rest.1 some)) in
     count_cons (λ y. test y && ltb y.tag tag) x xs ∙ omega (arith, ap bit out, more)
 
 count_before : (test : Token → Bool) (ts : List Token) (i : ℕ) → rising (map (λ t. t.tag) ts) ≡ true → i < length ts
-    → count_by (λ y. test y && ltb y.tag (get_or ts i blank).tag) ts ≡ count_by test (take i ts)
+    → count_by (λ y. test y && ltb y.tag (get_or ts i no_token).tag) ts ≡ count_by test (take i ts)
 count_before test [] i h l = absurd (omega arith)
 count_before test (x ∷ xs) zero h l = count_none_above test x.tag (x ∷ xs) h (λ some. omega arith)
 count_before test (x ∷ xs) (suc i) h l =
-    let tag = (get_or xs i blank).tag in
-    let low : ltb x.tag tag ≡ true = lt-ltb x.tag tag (above_first tag_of blank x xs i h (omega arith)) in
+    let tag = (get_or xs i no_token).tag in
+    let low : ltb x.tag tag ≡ true = lt-ltb x.tag tag (above_first tag_of no_token x xs i h (omega arith)) in
     let same : (test x && ltb x.tag tag) ≡ test x = grind (arith, nat_tests) in
-    let more = count_before test xs i (rising_rest tag_of blank x xs h).0 (omega arith) in
+    let more = count_before test xs i (rising_rest tag_of no_token x xs h).0 (omega arith) in
     count_cons (λ y. test y && ltb y.tag tag) x xs ∙ omega (arith, ap bit same, more, count_cons test x (take i xs))
 
 front_distinct : (xs ys : List ℕ) → distinct (xs ++ ys) ≡ true → distinct xs ≡ true
@@ -118,9 +114,6 @@ front_distinct xs ys h = by (distinct xs) refl
     by : (b : Bool) → distinct xs ≡ b → b ≡ true
     by true e = refl
     by false e = sym (distinct_not xs ys e) ∙ h
-
-kept_le : {X : Type 0} (test : X → Bool) (xs : List X) → length (filter test xs) ≤ length xs
-kept_le test xs = omega (arith, length-filter test xs, count_by-le-length test xs)
 
 -- Row by row: the first i of the tokens have moved.
 module _ (m : ℕ) (picks : Token → Bool) (d : ℕ) (ts : List Token) where
@@ -135,42 +128,33 @@ module _ (m : ℕ) (picks : Token → Bool) (d : ℕ) (ts : List Token) where
     pub turns : count ≡ count_by waits (take i ts)
     pub row : places ≡ row_of (map go_on (take i ts))
 
-  pub moving_none : Moving 0 ts 0 (replicate 16 0)
-  moving_none = record { moved_rows = refl; turns = refl; row = refl }
-
-  pub moving_is : {i : ℕ} {rows rows' : List Token} {count count' : ℕ} {places places' : List ℕ} → rows' ≡ rows → count' ≡ count → places' ≡ places
-      → Moving i rows count places → Moving i rows' count' places'
-  moving_is {i} a b c h = transport (λ j. Moving i (sym a j) (sym b j) (sym c j)) h
-
   -- a row whose turn has not come is as it was
-  row_here : (i : ℕ) (rows : List Token) (count : ℕ) (places : List ℕ) → i < length ts → Moving i rows count places → get_or rows i blank ≡ get_or ts i blank
+  row_here : (i : ℕ) (rows : List Token) (count : ℕ) (places : List ℕ) → i < length ts → Moving i rows count places → get_or rows i no_token ≡ get_or ts i no_token
   row_here i rows count places inside was =
       let long : length (map go_on (take i ts)) ≡ i = length-map (take i ts) go_on ∙ length-take-le i ts (omega arith) in
-      ap (λ l. get_or l i blank) (was.moved_rows ∙ ap (λ l. map go_on (take i ts) ++ l) (drop_more ts i blank inside))
-      ∙ get_or_at (map go_on (take i ts)) (get_or ts i blank) (drop (i + 1) ts) blank i long
+      ap (λ l. get_or l i no_token) (was.moved_rows ∙ ap (λ l. map go_on (take i ts) ++ l) (drop_more ts i no_token inside))
+      ∙ get_or_at (map go_on (take i ts)) (get_or ts i no_token) (drop (i + 1) ts) no_token i long
 
-  pub moving_all : (i : ℕ) (rows : List Token) (count : ℕ) (places : List ℕ) → length ts ≤ i → Moving i rows count places
-      → (rows ≡ map go_on ts) × (places ≡ row_of (map go_on ts))
-  moving_all i rows count places all was =
-      let whole = take_all i ts all in
-      (was.moved_rows ∙ (λ j. map go_on (whole j) ++ drop_all i ts all j) ∙ append-nil (map go_on ts), was.row ∙ ap (λ l. row_of (map go_on l)) whole)
+pub moving_is : {m : ℕ} {picks : Token → Bool} {d : ℕ} {ts : List Token} {i : ℕ} {rows rows' : List Token} {count count' : ℕ} {places places' : List ℕ} → rows' ≡ rows → count' ≡ count → places' ≡ places
+    → Moving m picks d ts i rows count places → Moving m picks d ts i rows' count' places'
+moving_is {m} {picks} {d} {ts} {i} a b c h = transport (λ j. Moving m picks d ts i (sym a j) (sym b j) (sym c j)) h
 
-module _ (m : ℕ) (picks : Token → Bool) (d : ℕ) (spare : List ℕ) (ts : List Token) (ok : Runnable m picks d spare ts) where
+module _ {m : ℕ} {picks : Token → Bool} {d : ℕ} {spare : List ℕ} {ts : List Token} (ok : Runnable m picks d spare ts) where
   abbrev go : Token → Token
   go = moved m picks ts d
 
   abbrev waiting : Token → Bool
   waiting y = picks y && eqb y.processor 0
 
-  module _ (i : ℕ) (rows : List Token) (count : ℕ) (places : List ℕ) (inside : i < length ts) (was : Moving m picks d ts i rows count places) where
+  module _ {i : ℕ} {rows : List Token} {count : ℕ} {places : List ℕ} (was : Moving m picks d ts i rows count places) (inside : i < length ts) where
     abbrev x : Token
-    x = get_or ts i blank
+    x = get_or ts i no_token
 
     its_turn : turn picks ts x ≡ count
     its_turn = count_before waiting ts i ok.sorted inside ∙ sym was.turns
 
     numbers : picks x ≡ true → (1 ≤ assigned m picks ts x) × (assigned m picks ts x ≤ m)
-    numbers = All-get_or (λ y. picks y ≡ true → (1 ≤ assigned m picks ts y) × (assigned m picks ts y ≤ m)) ts i blank inside ok.numbered
+    numbers = All-get_or (λ y. picks y ≡ true → (1 ≤ assigned m picks ts y) × (assigned m picks ts y ≤ m)) ts i no_token inside ok.numbered
 
     -- a chosen token that keeps its processor, and one that takes the spare one of its turn
     keeps : picks x ≡ true → (x.processor ≡ 0 → ⊥) → assigned m picks ts x ≡ x.processor
@@ -189,7 +173,7 @@ module _ (m : ℕ) (picks : Token → Bool) (d : ℕ) (spare : List ℕ) (ts : L
         let is : assigned m picks ts x ≡ get_or f count 0 = takes chosen off ∙ ok.spare_is count in
         let some = (numbers chosen).0 in
         let long : length f ≤ m =
-        subst (λ n. length f ≤ n) (length-range_with_len 1 m) (kept_le (λ p. not (has p (processors (filter picks ts)))) (range_with_len 1 m)) in
+        omega (arith, length-filter (λ p. not (has p (processors (filter picks ts)))) (range_with_len 1 m), count_by-le-length (λ p. not (has p (processors (filter picks ts)))) (range_with_len 1 m), length-range_with_len 1 m) in
         ⊎_elim (λ l. omega (arith, l, long, ok.few)) (λ past. absurd (omega (arith, some, is, get_or_past f count 0 past))) (cases_lt count (length f))
 
     -- the processor of a chosen token is none of those before it
@@ -200,17 +184,17 @@ module _ (m : ℕ) (picks : Token → Bool) (d : ℕ) (spare : List ℕ) (ts : L
         front_distinct (map a (take (i + 1) ts)) (map a (drop (i + 1) ts))
         (ap distinct (sym (map-append a (take (i + 1) ts) (drop (i + 1) ts)) ∙ ap (map a) (take-append-drop (i + 1) ts)) ∙ ok.apart) in
         let pushed : distinct (map a (take i ts) ++ a x ∷ []) ≡ true =
-        ap distinct (sym (map-append a (take i ts) (x ∷ [])) ∙ ap (map a) (sym (take_more ts i blank inside))) ∙ first in
+        ap distinct (sym (map-append a (take i ts) (x ∷ [])) ∙ ap (map a) (sym (take_more ts i no_token inside))) ∙ first in
         let told = distinct_push (a x) (map a (take i ts)) in
         let some = (numbers chosen).0 in
         let other : has (a x) (map a (take i ts)) ≡ false = grind (arith, nat_tests) in
         ap (has (a x)) (map_map (λ (t : Token). t.processor) go (take i ts)) ∙ other
 
     more_rows : set rows i (go x) ≡ map go (take (i + 1) ts) ++ drop (i + 1) ts
-    more_rows = ap (λ l. set l i (go x)) was.moved_rows ∙ map_more go ts ts i blank inside (omega arith)
+    more_rows = ap (λ l. set l i (go x)) was.moved_rows ∙ map_more go ts ts i no_token inside (omega arith)
 
     more_row : map go (take i ts) ++ go x ∷ [] ≡ map go (take (i + 1) ts)
-    more_row = sym (map-append go (take i ts) (x ∷ [])) ∙ ap (map go) (sym (take_more ts i blank inside))
+    more_row = sym (map-append go (take i ts) (x ∷ [])) ∙ ap (map go) (sym (take_more ts i no_token inside))
 
     -- a chosen token has run on processor p
     ran : picks x ≡ true → (p count' : ℕ) → p ≡ assigned m picks ts x → count' ≡ count_by waiting (take (i + 1) ts)
@@ -232,13 +216,13 @@ module _ (m : ℕ) (picks : Token → Bool) (d : ℕ) (spare : List ℕ) (ts : L
         → Moving m picks d ts (i + 1) (set rows i (record { tag = x.tag; left = x.left - d; processor = x.processor })) count (set places (x.processor - 1) x.tag)
     ran_on chosen on =
         let out : waiting x ≡ false = (λ j. picks x && ne_eqb x.processor 0 on j) ∙ grind (arith, nat_tests) in
-        ran chosen x.processor count (sym (keeps chosen on)) (was.turns ∙ sym (count_by_more_no waiting ts i blank inside out))
+        ran chosen x.processor count (sym (keeps chosen on)) (was.turns ∙ sym (count_by_more_no waiting ts i no_token inside out))
 
     ran_off : picks x ≡ true → x.processor ≡ 0
         → Moving m picks d ts (i + 1) (set rows i (record { tag = x.tag; left = x.left - d; processor = get_or spare count 0 })) (count + 1) (set places (get_or spare count 0 - 1) x.tag)
     ran_off chosen off =
         let in_turn : waiting x ≡ true = (λ j. chosen j && eq-eqb x.processor 0 off j) in
-        ran chosen (get_or spare count 0) (count + 1) (sym (takes chosen off)) (ap (λ n. n + 1) was.turns ∙ sym (count_by_more_yes waiting ts i blank inside in_turn))
+        ran chosen (get_or spare count 0) (count + 1) (sym (takes chosen off)) (ap (λ n. n + 1) was.turns ∙ sym (count_by_more_yes waiting ts i no_token inside in_turn))
 
     waited : picks x ≡ false → Moving m picks d ts (i + 1) (set rows i (record { tag = x.tag; left = x.left; processor = 0 })) count places
     waited other =
@@ -248,23 +232,19 @@ module _ (m : ℕ) (picks : Token → Bool) (d : ℕ) (spare : List ℕ) (ts : L
         let out : waiting x ≡ false = λ j. other j && eqb x.processor 0 in
         record {
           moved_rows = ap (λ t. set rows i t) u ∙ more_rows;
-          turns = was.turns ∙ sym (count_by_more_no waiting ts i blank inside out);
+          turns = was.turns ∙ sym (count_by_more_no waiting ts i no_token inside out);
           row = was.row ∙ row_same (map go (take i ts)) (go x) none ∙ ap row_of more_row;
         }
 
     -- The same of the row as it is read.
     abbrev y : Token
-    y = get_or rows i blank
+    y = get_or rows i no_token
 
     is : y ≡ x
     is = row_here m picks d ts i rows count places inside was
 
     pub room : picks y ≡ true → y.processor ≡ 0 → count < 16
     room = subst (λ t. picks t ≡ true → t.processor ≡ 0 → count < 16) (sym is) spare_inside
-
-    -- a chosen one has its time and a processor
-    pub reaches : picks y ≡ true → d ≤ y.left
-    reaches = subst (λ t. picks t ≡ true → d ≤ t.left) (sym is) (All-get_or (λ t. picks t ≡ true → d ≤ t.left) ts i blank inside ok.reach)
 
     pub on_board : picks y ≡ true → (y.processor ≡ 0 → ⊥) → y.processor ≤ 16
     on_board = subst (λ t. picks t ≡ true → (t.processor ≡ 0 → ⊥) → t.processor ≤ 16) (sym is)

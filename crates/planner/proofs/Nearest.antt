@@ -1,5 +1,5 @@
 -- The last token that runs has the least time left of those that run, and the first that waits the most of the others.
-use Rattle.std.proofs.Common.{◌≡◌, ℕ, ◌-◌, ◌^◌, ◌<◌, ◌≤◌, min, Bool, true, false, cond, not, ◌&&◌, eqb, ltb, List, length, get_or, take, drop, count_by, sym, refl, ap, ◌∙◌, ⊎_elim, arith}
+use Rattle.std.proofs.Common.{◌≡◌, ℕ, ◌-◌, ◌<◌, ◌≤◌, min, Bool, true, false, cond, not, ◌&&◌, eqb, ltb, List, length, get_or, take, drop, count_by, sym, refl, ap, ◌∙◌, ⊎_elim, arith}
 use Rattle.std.proofs.lemmas.List.{length-map, length-take, length-drop, get_or-map}
 use Rattle.std.proofs.lemmas.List.Sums.{count_by-le-length}
 use Rattle.std.proofs.lemmas.Bool.{and_parts, and_from, not-true, not_from_false, lt-ltb, le-ltb, eq-eqb, eqb-true, cases_lt, cond-true, cond-false}
@@ -8,7 +8,7 @@ use Rattle.rules.specs.Keys.{Key, ByLeft}
 use Rattle.model.specs.Steps.{active, chosen}
 use Rattle.model.specs.Members.{In}
 use Rattle.model.proofs.Counts.{count_none}
-use Rattle.model.proofs.Bounds.{Sound}
+use Rattle.planner.specs.Runs.{Ready}
 use Rattle.planner.specs.Lining.{Kept, everyone, no_token, at, those, seated}
 use Rattle.planner.specs.Looking.{least_left, most_left}
 use Rattle.planner.proofs.Tallies.{in_count, count_in}
@@ -17,7 +17,7 @@ use Rattle.planner.proofs.Extremes.{least_span, least_le, least_ge, most_ge, mos
 use Rattle.planner.proofs.Standing.{stands}
 use Rattle.planner.proofs.Ranked.{runs, waits}
 
-module _ (m : ℕ) (key : Key) (by : ByLeft key) (span : ℕ) (ts rows : List Token) (line places : List ℕ) (ok : Sound m span ts) (short : span ≤ 2 ^ 54) (is : Kept ts rows line places) where
+module _ (key : Key) (by : ByLeft key) {m span : ℕ} {ts rows : List Token} {line places : List ℕ} (ready : Ready m span ts) (is : Kept ts rows line places) where
   abbrev picks : Token → Bool
   picks = chosen m key span ts
 
@@ -26,11 +26,11 @@ module _ (m : ℕ) (key : Key) (by : ByLeft key) (span : ℕ) (ts rows : List To
 
   -- counting those that run, in the line
   ran : (p : Token → Bool) → count_by (λ x. picks x && p x) ts ≡ count_by (λ x. p (seated places x)) (take m us)
-  ran = runs m key by span ts us places ok short (stands ts rows line places is)
+  ran = runs m key by span ts us places ready.sound ready.short (stands ts rows line places is)
 
   -- and those that wait
   waiting : (p : Token → Bool) → count_by (λ x. not (picks x) && (active x && p x)) ts ≡ count_by (λ x. p (seated places x)) (drop m us)
-  waiting = waits m key by span ts us places ok short (stands ts rows line places is)
+  waiting = waits m key by span ts us places ready.sound ready.short (stands ts rows line places is)
 
   -- the last of the first m has the least time left of those that run
   least_some : (r : ℕ) → r ≡ min m (length us) → 0 < r → (get_or us (r - 1) no_token).left ≡ least_left picks span ts
@@ -40,7 +40,7 @@ module _ (m : ℕ) (key : Key) (by : ByLeft key) (span : ℕ) (ts rows : List To
       let s = count_in (λ x. picks x && eqb x.left w) ts (omega (arith, ran (λ x. eqb x.left w))) in
       let p = and_parts (picks s.0) (eqb s.0.left w) s.2 in
       let e = eqb-true s.0.left w p.1 in
-      let top = ok.low s.0 s.1 in
+      let top = ready.sound.low s.0 s.1 in
       let le = least_le picks span ts s.0 s.1 p.0 in
       let ge = least_ge picks span ts w (omega arith) each in
       omega arith
@@ -64,12 +64,12 @@ module _ (m : ℕ) (key : Key) (by : ByLeft key) (span : ℕ) (ts rows : List To
           omega (arith, ran everyone, in_count (λ x. picks x && true) ts i (and_from _ _ h refl), count_by-le-length everyone (take m us), length-take m us)
 
   -- the least time left of those that run
-  pub least_is : (r : ℕ) → r ≡ min m (length line) → cond (ltb 0 r) (at rows (get_or line (r - 1) 0)).left span ≡ least_left (chosen m key span ts) span ts
-  least_is r r-is = ⊎_elim
+  pub least_is : {r : ℕ} → r ≡ min m (length line) → cond (ltb 0 r) (at rows (get_or line (r - 1) 0)).left span ≡ least_left (chosen m key span ts) span ts
+  least_is {r} r-is = ⊎_elim
       (λ pos. cond-true (ltb 0 r) _ span (lt-ltb 0 r pos)
       ∙ ap (λ x. x.left) (sym (get_or-map (at rows) line (r - 1) 0 no_token (omega arith)))
       ∙ least_some r (omega (arith, length-map line (at rows))) pos)
-      (λ none. cond-false (ltb 0 r) _ span (le-ltb 0 r none) ∙ least_none (omega (arith, length-map line (at rows), ok.some)))
+      (λ none. cond-false (ltb 0 r) _ span (le-ltb 0 r none) ∙ least_none (omega (arith, length-map line (at rows), ready.sound.some)))
       (cases_lt 0 r)
 
   -- the first that waits has the most time left of those that do not run
@@ -111,8 +111,8 @@ module _ (m : ℕ) (key : Key) (by : ByLeft key) (span : ℕ) (ts rows : List To
           (cases_lt 0 x.left)
 
   -- the most time left of the others
-  pub most_is : (r : ℕ) → r ≡ min m (length line) → cond (ltb r (length line)) (at rows (get_or line r 0)).left 0 ≡ most_left (chosen m key span ts) ts
-  most_is r r-is = ⊎_elim
+  pub most_is : {r : ℕ} → r ≡ min m (length line) → cond (ltb r (length line)) (at rows (get_or line r 0)).left 0 ≡ most_left (chosen m key span ts) ts
+  most_is {r} r-is = ⊎_elim
       (λ more. let e : r ≡ m = omega arith in
       cond-true (ltb r (length line)) _ 0 (lt-ltb r (length line) more)
       ∙ ap (λ x. x.left) (sym (get_or-map (at rows) line r 0 no_token more))

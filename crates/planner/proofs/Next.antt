@@ -1,22 +1,22 @@
 -- The tokens after a step, by the rows before it.
-use Rattle.std.proofs.Common.{◌≡◌, ℕ, ◌-◌, ◌^◌, ◌<◌, ◌≤◌, Bool, true, false, cond, ltb, leb, List, map, length, get_or, take, sym, ◌∙◌, subst, ⊎_elim, arith}
+use Rattle.std.proofs.Common.{◌≡◌, ℕ, ◌-◌, ◌<◌, ◌≤◌, Bool, true, false, cond, ltb, leb, List, map, length, get_or, take, sym, ◌∙◌, subst, ⊎_elim, arith}
 use Rattle.std.proofs.lemmas.Bool.{and_parts, and_from, ltb-true, leb-true, eqb-true, lt-ltb, le-leb, eq-eqb, cases_Bool, both_ways, cond-false}
 use Rattle.rows.specs.declared.memory.Token.{Token}
 use Rattle.rows.specs.Tests.{has}
-use Rattle.rules.specs.Keys.{Key, Lawful, ByLeft}
+use Rattle.rules.specs.Keys.{Key}
 use Rattle.model.specs.Steps.{chosen, moved, row_of}
 use Rattle.model.specs.Members.{In}
-use Rattle.model.proofs.Bounds.{Sound, Choice, Reach}
+use Rattle.model.proofs.Bounds.{Choice}
 use Rattle.model.proofs.Chosen.{fair}
 use Rattle.model.proofs.Runners.{row_at}
 use Rattle.model.proofs.Stepping.{Unshared, in_map, map_in, chosen_on, other_off, unshared, one, row_says}
-use Rattle.planner.specs.Lining.{Kept, at, holds, seated}
+use Rattle.planner.specs.Lining.{at, holds, seated}
 use Rattle.planner.proofs.Members.{has_in, in_has, in_getD}
-use Rattle.planner.proofs.Assigned.{One, row_length, row_like}
-use Rattle.planner.proofs.After.{token_in, each_token, inside, picked}
+use Rattle.planner.proofs.Assigned.{One, row_like}
+use Rattle.planner.proofs.Seats.{row_length}
+use Rattle.planner.proofs.After.{Stepped, token_in, each_token, inside, picked}
 
-module _ (m : ℕ) (key : Key) (law : Lawful key) (by : ByLeft key) (span : ℕ) (ts rows : List Token) (line places : List ℕ) (ok : Sound m span ts) (some : 0 < span) (short : span ≤ 2 ^ 54) (is : Kept ts rows line places)
-    (d : ℕ) (to : Reach span ts (chosen m key span ts) d) where
+module _ {m : ℕ} {key : Key} {span : ℕ} {ts rows : List Token} {line places : List ℕ} {d : ℕ} {mid after : List Token} (it : Stepped m key span ts rows line places d mid after) where
   abbrev run : List ℕ
   run = take m line
 
@@ -35,56 +35,44 @@ module _ (m : ℕ) (key : Key) (law : Lawful key) (by : ByLeft key) (span : ℕ)
 
   -- the choice is fair
   choice : Choice m span ts picks
-  choice = fair m key law span ts ok some short
-
-  -- the tokens of the rows are those of the plane
-  x_in : (i : ℕ) → i < length rows → In (x i) ts
-  x_in = token_in m key by span ts rows line places ok short is
-
-  -- those at the places that run are chosen
-  x_picked : (i : ℕ) → i < length rows → picks (x i) ≡ has i run
-  x_picked = picked m key by span ts rows line places ok short is
-
-  -- such a place is one of a row
-  within : (i : ℕ) → In i run → i < length rows
-  within = inside m key by span ts rows line places ok short is
+  choice = fair m key it.law span ts it.ready.sound it.ready.some it.ready.short
 
   -- the token of a row after the step is one of those after it
   new_in : (i : ℕ) → i < length rows → In (new i) next
-  new_in i h = map_in (moved m picks ts d) ts (x_in i h)
+  new_in i h = map_in (moved m picks ts d) ts (token_in it i h)
 
   -- no two of them share a processor
   own : Unshared next
-  own = unshared m span ts ok picks choice d to
+  own = unshared m span ts it.ready.sound picks choice d it.to
 
   -- and none is on two
   single : One next
-  single = one m span ts ok picks choice d to
+  single = one m span ts it.ready.sound picks choice d it.to
 
   -- the row is that of those that ran
   pub row_ran : row_of (map new run) ≡ row_of next
   row_ran = row_like (map new run) next part all own single
     where
       part : (u : Token) → In u (map new run) → In u next
-      part = in_map (λ u. In u next) new run (λ i k. new_in i (within i k))
+      part = in_map (λ u. In u next) new run (λ i k. new_in i (inside it i k))
 
       on : (i : ℕ) → i < length rows → 1 ≤ (new i).processor → In (new i) (map new run)
       on i h some = ⊎_elim
           (λ k. map_in new run (has_in i run k))
-          (λ k. absurd (omega (arith, other_off m span ts ok picks choice d to (x i) (x_picked i h ∙ k))))
+          (λ k. absurd (omega (arith, other_off m span ts it.ready.sound picks choice d it.to (x i) (picked it i h ∙ k))))
           (cases_Bool (has i run))
 
       all : (v : Token) → In v next → 1 ≤ v.processor → In v (map new run)
       all = in_map (λ v. 1 ≤ v.processor → In v (map new run)) (moved m picks ts d) ts
-          (each_token m key by span ts rows line places ok short is (λ y. 1 ≤ (moved m picks ts d y).processor → In (moved m picks ts d y) (map new run)) on)
+          (each_token it (λ y. 1 ≤ (moved m picks ts d y).processor → In (moved m picks ts d y) (map new run)) on)
 
   -- one that ran has its processor by the new row
   pub seated_ran : (i : ℕ) → In i run → seated (row_of next) (new i) ≡ new i
   seated_ran i k =
-      let h = within i k in
+      let h = inside it i k in
       let u = new i in
-      let on = chosen_on m span ts ok picks choice d to (x i) (x_in i h) (x_picked i h ∙ in_has i run k) in
-      let few : u.processor ≤ 16 = omega (arith, on.1, ok.few) in
+      let on = chosen_on m span ts it.ready.sound picks choice d it.to (x i) (token_in it i h) (picked it i h ∙ in_has i run k) in
+      let few : u.processor ≤ 16 = omega (arith, on.1, it.ready.sound.few) in
       let there = row_at next own single u (new_in i h) on.0 few in
       let holding : holds (row_of next) u ≡ true =
       and_from _ _ (lt-ltb 0 u.processor on.0) (and_from _ _ (le-leb u.processor 16 few) (eq-eqb (get_or (row_of next) (u.processor - 1) 0) u.tag there)) in
@@ -94,8 +82,8 @@ module _ (m : ℕ) (key : Key) (law : Lawful key) (by : ByLeft key) (span : ℕ)
   pub seated_rest : (i : ℕ) → i < length rows → has i run ≡ false → seated (row_of next) (at rows i) ≡ new i
   seated_rest i h out =
       let r = at rows i in
-      let off = x_picked i h ∙ out in
-      let says : has r.tag (row_of next) ≡ false = row_says m span ts ok picks choice d to (x i) (x_in i h) ∙ off in
+      let off = picked it i h ∙ out in
+      let says : has r.tag (row_of next) ≡ false = row_says m span ts it.ready.sound picks choice d it.to (x i) (token_in it i h) ∙ off in
       let lost : holds (row_of next) r ≡ false = ⊎_elim
       (λ e. let p = and_parts (ltb 0 r.processor) _ e in
       let q = and_parts (leb r.processor 16) _ p.1 in
@@ -109,7 +97,7 @@ module _ (m : ℕ) (key : Key) (law : Lawful key) (by : ByLeft key) (span : ℕ)
       λ j. record {
         left = cond (sym off j) (r.left - d) r.left;
         tag = r.tag;
-        processor = both (cond-false (holds (row_of next) r) r.processor 0 lost) (other_off m span ts ok picks choice d to (x i) off) j;
+        processor = both (cond-false (holds (row_of next) r) r.processor 0 lost) (other_off m span ts it.ready.sound picks choice d it.to (x i) off) j;
       }
     where
       both : {a b c : ℕ} → a ≡ c → b ≡ c → a ≡ b

@@ -1,5 +1,5 @@
 -- The course of a finish whose tokens stay in line.
-use Rattle.std.proofs.Common.{◌≡◌, ℕ, ◌+◌, ◌-◌, ◌*◌, ◌<◌, ◌≤◌, Bool, true, false, cond, not, ◌||◌, eqb, List, [], ◌∷◌, ◌++◌, map, length, get_or, take, drop, sym, refl, ap, ◌∙◌, inl, inr, arith, eq-eqb, ne_eqb, le-leb}
+use Rattle.std.proofs.Common.{◌≡◌, ℕ, ◌+◌, ◌-◌, ◌<◌, ◌≤◌, Bool, true, false, cond, not, ◌||◌, eqb, List, [], ◌∷◌, ◌++◌, map, length, get_or, take, drop, sym, refl, ap, ◌∙◌, inl, inr, arith, eq-eqb, ne_eqb, le-leb}
 use mathlib.Core.Path.{transport}
 use borrow.Rule.Slice.PartMut.{put_mid}
 use Rattle.std.proofs.lemmas.List.{map-id, drop-drop, length-append, length-drop, length-take-le}
@@ -16,10 +16,11 @@ use Rattle.model.proofs.Bounds.{Sound}
 use Rattle.model.proofs.Order.{same_token}
 use Rattle.model.proofs.Runners.{row_at}
 use Rattle.model.proofs.Stepping.{Unshared, map_in}
+use Rattle.planner.specs.Runs.{Finishes}
 use Rattle.planner.specs.Lining.{Kept, Lines, Strides, holds, seated}
-use Rattle.planner.proofs.Assigned.{row_length}
-use Rattle.planner.proofs.Courses.{Course, course_is, more}
-use Rattle.planner.proofs.Gathering.{lent_part}
+use Rattle.planner.proofs.Seats.{row_length}
+use Rattle.planner.proofs.Courses.{Course, course_is, course_none, falls, more}
+use Rattle.planner.proofs.Writes.{lent_part}
 use Rattle.planner.proofs.Members.{in_has, map_same}
 
 -- what stands twice is none
@@ -70,49 +71,52 @@ put_long xs ys n h e = simp (length-append, length-drop) (omega (arith, length-t
 
 module _ (m : ℕ) (key : Key) (law : Lawful key) (span : ℕ) (ts : List Token) (buffer : List ℕ) where
   pub record Racing (left : ℕ) (rows : List Token) (line : List ℕ) (first : ℕ) (places plan : List ℕ) (count at : ℕ) : Type 0 where
-    pub course : Course m key law (length ts) span ts buffer left (map (seated places) rows) plan count at
+    pub course : Course m key law span ts buffer left (map (seated places) rows) plan count at
     pub kept : Kept (map (seated places) rows) rows (drop first line) places
     pub inside : first ≤ length line
 
-  pub racing_none : Sound m span ts → Course m key law (length ts) span ts buffer span ts buffer 0 0 → (line : List ℕ) (first : ℕ) (places : List ℕ)
-      → first ≤ length line → Lines ts (drop first line) → places ≡ row_of ts → Racing span ts line first places buffer 0 0
-  racing_none ok course line first places inside lines is =
-      let same : map (seated places) ts ≡ ts = ap (λ p. map (seated p) ts) is ∙ seated_first m span ts ok in
+module _ {m : ℕ} {key : Key} {law : Lawful key} {span : ℕ} {ts : List Token} {buffer : List ℕ} (fits : Finishes m span ts buffer) where
+  pub racing_none : {line : List ℕ} {first : ℕ} {places : List ℕ} → first ≤ length line → Lines ts (drop first line) → places ≡ row_of ts
+      → Racing m key law span ts buffer span ts line first places buffer 0 0
+  racing_none {places} inside lines is =
+      let same : map (seated places) ts ≡ ts = ap (λ p. map (seated p) ts) is ∙ seated_first m span ts fits.sound in
       record {
-        course = course_is m key law (length ts) span ts buffer refl same refl course;
+        course = course_is refl same refl (course_none fits);
         kept = record { same = refl; row = is ∙ ap row_of (sym same); lines = lines };
         inside = inside;
       }
 
-  module _ (left : ℕ) (rows : List Token) (line : List ℕ) (first : ℕ) (places plan : List ℕ) (count at : ℕ) (fits : (length ts + 1) * record_size m ≤ length buffer) (some : 0 < left)
-      (few : m ≤ 16) (was : Racing left rows line first places plan count at) (after : List Token) (part next : List ℕ) (freed units kind : ℕ)
-      (told : Strides m key left (map (seated places) rows) after (drop freed part) next units kind) where
+  module _ {left : ℕ} {rows : List Token} {line : List ℕ} {first : ℕ} {places plan : List ℕ} {count at : ℕ} (some : 0 < left) (was : Racing m key law span ts buffer left rows line first places plan count at)
+      {after : List Token} {next : List ℕ} {units kind : ℕ} (part : List ℕ) (freed : ℕ) (told : Strides m key left (map (seated places) rows) after (drop freed part) next units kind) where
     abbrev now : List Token
     now = map (seated places) rows
 
-    pub units_is : units ≡ (step m key left now).segment.units
+    units_is : units ≡ (step m key left now).segment.units
     units_is = ap (λ (s : Segment). s.units) told.segment
+
+    pub some_run : 0 < units
+    some_run = omega (arith, units_is, falls fits some was.course)
 
     next_long : length next ≡ 16
     next_long = ap (λ (s : Segment). length s.row) told.segment ∙ row_length (step m key left now).tokens
 
-    pub tags_long : length (take (m - 0) next) ≡ m
-    tags_long = length-take-le (m - 0) next (omega (arith, next_long)) ∙ omega arith
+    pub tags_long : length (take m next) ≡ m
+    tags_long = length-take-le m next (omega (arith, next_long, fits.sound.few)) ∙ omega arith
 
     pub goes_on : (wrote : List ℕ) (line' : List ℕ) → line' ≡ put_mid first (length line - first) line part → freed ≤ length part → length part ≡ length line - first
-        → wrote ≡ (be64 units ++ kind ∷ tag_bytes (take (m - 0) next)) ++ drop (record_size (length (take (m - 0) next))) (take (length plan - at) (drop at plan))
-        → Racing (left - units) after line' (first + freed) next (put_mid at (length plan - at) plan wrote) (count + 1) (at + record_size m)
-    goes_on wrote line' line-is short long wrote-is =
-        let whole : take (m - 0) next ≡ take m next = ap (λ k. take k next) {x = m - 0} {y = m} (omega arith) in
+        → wrote ≡ (be64 units ++ kind ∷ tag_bytes (take m next)) ++ drop (record_size (length (take m next))) (take (length plan - at) (drop at plan))
+        → (size : ℕ) → size ≡ record_size m
+        → Racing m key law span ts buffer (left - units) after line' (first + freed) next (put_mid at (length plan - at) plan wrote) (count + 1) (at + size)
+    goes_on wrote line' line-is short long wrote-is size size-is =
         let text : wrote ≡ record_bytes m (step m key left now).segment ++ drop (record_size m) (take (length plan - at) (drop at plan)) =
-        wrote-is ∙ (λ j. (be64 units ++ kind ∷ tag_bytes (whole j)) ++ drop (record_size (tags_long j)) (take (length plan - at) (drop at plan)))
+        wrote-is ∙ (λ j. (be64 units ++ kind ∷ tag_bytes (take m next)) ++ drop (record_size (tags_long j)) (take (length plan - at) (drop at plan)))
         ∙ ap (λ s. record_bytes m s ++ drop (record_size m) (take (length plan - at) (drop at plan))) told.segment in
         let written-so = lent_written plan wrote (record_bytes m (step m key left now).segment) at (record_size m) text in
         let rest : drop (first + freed) line' ≡ drop freed part =
         sym (drop-drop freed first line') ∙ ap (λ l. drop freed (drop first l)) line-is ∙ ap (drop freed) (lent_part line part first was.inside) in
         record {
-          course = course_is m key law (length ts) span ts buffer (ap (λ k. left - k) units_is) (sym told.kept.same) refl
-              (more m key law (length ts) span ts buffer left now plan count at fits some was.course (put_mid at (length plan - at) plan wrote) written-so);
+          course = course_is (ap (λ k. left - k) units_is) (sym told.kept.same) (ap (λ z. at + z) size-is)
+              (more fits some was.course (put_mid at (length plan - at) plan wrote) written-so);
           kept = transport (λ j. Kept (told.kept.same j) after (sym rest j) next) told.kept;
           inside = omega (arith, ap length line-is, put_long line part first was.inside long, was.inside);
         }

@@ -2,7 +2,7 @@
 use Rattle.std.proofs.Common.{◌≡◌, ℕ, ◌+◌, ◌-◌, ◌<◌, ◌≤◌, Bool, false, cond, not, List, map, length, get_or, take, drop, filter, sym, refl, ap, ◌∙◌, subst, inl, inr, arith}
 use Rattle.std.specs.List.{range_with_len, AllByRecursion}
 use Rattle.std.proofs.ByRecursion.{All-get_or, All-weaker, all_kept_by}
-use Rattle.std.proofs.lemmas.List.{get_or_past, take_rest, drop-drop, length-drop}
+use Rattle.std.proofs.lemmas.List.{get_or_past, take_rest, drop-drop}
 use Rattle.std.proofs.lemmas.Bool.{cases_lt}
 use Rattle.std.proofs.lemmas.Bool.Decides.{nat_tests}
 use Rattle.rows.specs.declared.memory.Token.{Token}
@@ -61,9 +61,6 @@ module _ (line ran : List ℕ) (running : ℕ) (within : running ≤ length line
 
   abbrev lent : List ℕ
   lent = take (length line - freed) (drop freed line)
-
-  pub lent_room : length ran ≤ length lent
-  lent_room = omega (arith, ap length (take_rest line freed), length-drop freed line)
 
   pub lent_rest : drop (length ran) lent ≡ drop running line
   lent_rest =

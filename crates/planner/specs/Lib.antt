@@ -4,3 +4,4 @@ pub mod Looking
 pub mod Segments
 pub mod Upcoming
 pub mod Lining
+pub mod Runs

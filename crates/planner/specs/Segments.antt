@@ -3,7 +3,7 @@ use Rattle.std.specs.Prelude.{ℕ, List, ◌++◌, length, drop}
 use Rattle.rows.specs.declared.row.Row.{Row}
 use Rattle.rows.specs.Kinds.{kind_number}
 use Rattle.plan_file.specs.Records.{Segment, records_bytes}
-use Rattle.planner.specs.declared.event.Event.{Event}
+use Rattle.rows.specs.declared.event.Event.{Event}
 
 -- from a step's answer and the row that it filled
 abbrev pub segment_of : Event → Row → Segment

@@ -1,13 +1,13 @@
 // Whether lent rows fit a board or a plane. Only as many rows as there are tasks are looked at.
-ghost use Rattle.std.specs.Prelude.{◌≡◌, ◌%◌, ◌^◌, ◌<◌, ◌≤◌, true, map, length, take, is_some, if◌then◌else◌, Some, None, sum_by};
+ghost use Rattle.std.specs.Prelude.{◌≡◌, ℕ, ◌%◌, ◌^◌, ◌<◌, ◌≤◌, Bool, true, ◌&&◌, nat_le, map, length, take, is_some, if◌then◌else◌, Some, None, sum_by};
 ghost use Rattle.std.specs.List.{AllByRecursion};
-ghost use Rattle.rows.specs.Tests.{all, distinct};
+ghost use Rattle.rows.specs.Tests.{all, distinct, rising};
 ghost use Rattle.model.specs.Tables.{weight, sound_task, tasks_fit};
 ghost use Rattle.model.specs.Planes.{sound_token, tokens_fit};
 ghost use Rattle.planner.specs.Views.{rest, plane};
 
 use crate::board::{Board, Plane};
-use rows::keyed::is_rising;
+use rows::keyed::{Keyed, is_rising};
 use rows::memory::{Task, Token};
 
 // The units of its processor that a task takes in each tick. Its period divides the scale, so that one short division does.
@@ -18,91 +18,103 @@ pub(crate) fn weight_of(scale: u32, task: &Task) -> u64
     task.execution as u64 * (scale / task.period) as u64
 }
 
-impl Board {
-    // Whether a row may stand on this board.
-    fn is_sound(&self, task: &Task) -> bool
-        ensures { result ≡ sound_task (rest self.now) task.now }
-    {
-        task.tag > 0
+// What a board or a plane asks of each row in its memory, and what the row adds to their sum.
+trait Judge {
+    type Row: Keyed;
+
+    ghost is_sound: { Self → Self.Row → Bool };
+
+    ghost amount: { Self → Self.Row → ℕ };
+
+    // None where the row is not sound.
+    fn amount(&self, row: &Self::Row) -> Option<u64>
+        ensures amount { result ≡ (if is_sound self.now row.now then Some (amount self.now row.now) else None) }
+        ensures low { is_some result ≡ true → amount self.now row.now ≤ 2 ^ 54 }
+        ensures tag { Self.Row.Keyed.ordinal row.now < 2 ^ 16 };
+}
+
+impl Judge for Board {
+    type Row = Task;
+
+    ghost is_sound = { λ b. sound_task (rest b) };
+
+    ghost amount = { λ b. weight b.scale };
+
+    fn amount(&self, task: &Task) -> Option<u64> {
+        let is_sound = task.tag > 0
             && task.execution > 0
             && task.execution <= task.period
             && self.scale % task.period == 0
-            && task.release <= self.tick
-    }
-
-    // The weights of the rows together, or none where a row is not sound.
-    fn weigh(&self, rows: &[Task]) -> Option<u64>
-        requires { length rows.now ≤ 256 }
-        ensures { result ≡ (if all (sound_task (rest self.now)) rows.now then Some (sum_by (weight self.now.scale) rows.now) else None) }
-    {
-        let mut sum = 0;
-        for task in rows {
-            if !self.is_sound(task) {
-                return None;
-            }
-            sum += weight_of(self.scale, task);
+            && task.release <= self.tick;
+        if is_sound {
+            Some(weight_of(self.scale, task))
+        } else {
+            None
         }
-        Some(sum)
     }
+}
 
+impl Judge for Plane {
+    type Row = Token;
+
+    ghost is_sound = { λ p. sound_token (plane p) };
+
+    ghost amount = { λ p x. x.left };
+
+    fn amount(&self, token: &Token) -> Option<u64> {
+        let is_sound = token.tag > 0
+            && token.left <= self.span
+            && token.processor <= self.board.processors;
+        if is_sound { Some(token.left) } else { None }
+    }
+}
+
+// What the rows add up to, or none where a row is not sound. Of 256 rows at most, so that the sum fits.
+fn add_up<J: Judge>(judge: &J, rows: &[J::Row]) -> Option<u64>
+    requires { length rows.now ≤ 256 }
+    ensures sum { result ≡ (if all (J.is_sound judge.now) rows.now then Some (sum_by (J.amount judge.now) rows.now) else None) }
+    ensures tags { is_some result ≡ true → AllByRecursion (λ x. J.Row.ordinal x < 2 ^ 16) rows.now }
+{
+    let mut sum = 0;
+    for row in rows {
+        sum += judge.amount(row)?;
+    }
+    Some(sum)
+}
+
+// What the first rows of memory add up to, so many as are asked for, or none where they are not there, not in order of
+// tag, or not each sound.
+fn total<J: Judge>(judge: &J, memory: &[J::Row], count: u16) -> Option<u64>
+    requires { count ≤ 256 }
+    ensures sum { let rows = take count memory.now in result ≡ (if nat_le count (length memory.now) && rising (map J.Row.ordinal rows) && all (J.is_sound judge.now) rows then Some (sum_by (J.amount judge.now) rows) else None) }
+    ensures tags { is_some result ≡ true → AllByRecursion (λ x. J.Row.ordinal x < 2 ^ 16) (take count memory.now) }
+{
+    let rows = memory.get(..count as usize)?;
+    let sum = add_up(judge, rows)?;
+    if is_rising(rows) { Some(sum) } else { None }
+}
+
+impl Board {
     // Whether task memory fits: the rows in order of tag, each sound, with the board's load.
     pub(crate) fn tasks_fit(&self, tasks: &[Task]) -> bool
         ensures { result ≡ tasks_fit (rest self.now) tasks.now }
     {
-        let count = self.count as usize;
-        if tasks.len() < count {
-            return false;
-        }
-        let rows = &tasks[0..count];
-        let Some(load) = self.weigh(rows) else {
-            return false;
-        };
-        load == self.load as u64 && is_rising(rows)
+        total(self, tasks, self.count).is_some_and(|load| load == self.load as u64)
     }
 }
 
 impl Plane {
-    // Whether a row may stand in this plane.
-    fn is_sound(&self, token: &Token) -> bool
-        ensures sound { result ≡ sound_token (plane self.now) token.now }
-        ensures tag { token.now.tag < 2 ^ 16 }
-    {
-        token.tag > 0 && token.left <= self.span && token.processor <= self.board.processors
-    }
-
-    // The time left of the rows together, or none where a row is not sound.
-    fn add_up(&self, rows: &[Token]) -> Option<u64>
-        requires { length rows.now ≤ 256 }
-        ensures sum { result ≡ (if all (sound_token (plane self.now)) rows.now then Some (sum_by (λ x. x.left) rows.now) else None) }
-        ensures tags { is_some result ≡ true → AllByRecursion (λ x. x.tag < 2 ^ 16) rows.now }
-    {
-        let mut sum = 0;
-        for token in rows {
-            if !self.is_sound(token) {
-                return None;
-            }
-            sum += token.left;
-        }
-        Some(sum)
-    }
-
     // Whether token memory fits: the rows in order of tag, each sound, with no more time left than the processors
     // have, and no processor twice.
     pub(crate) fn tokens_fit(&self, tokens: &[Token]) -> bool
         ensures fits { result ≡ tokens_fit (plane self.now) tokens.now }
         ensures tags { result ≡ true → AllByRecursion (λ x. x.tag < 2 ^ 16) (take self.now.board.count tokens.now) }
     {
-        let count = self.board.count as usize;
-        if tokens.len() < count {
-            return false;
-        }
-        let rows = &tokens[0..count];
-        let Some(left) = self.add_up(rows) else {
+        let Some(left) = total(self, tokens, self.board.count) else {
             return false;
         };
         left <= self.board.processors as u64 * self.span
-            && is_rising(rows)
-            && processors_differ(rows)
+            && processors_differ(&tokens[..self.board.count as usize])
     }
 }
 

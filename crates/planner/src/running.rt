@@ -5,7 +5,7 @@ ghost use Rattle.rows.specs.Kinds.{kind_number};
 ghost use Rattle.rules.specs.Keys.{Key, Lawful, ByLeft};
 ghost use Rattle.plan_file.specs.Records.{record_size, records_bytes};
 ghost use Rattle.model.specs.Planes.{steps};
-ghost use Rattle.model.proofs.Bounds.{Sound};
+ghost use Rattle.planner.specs.Runs.{Ready, Finishes, RunsOut};
 ghost use Rattle.planner.specs.Looking.{nearest_kind};
 ghost use Rattle.planner.specs.Lining.{those, Lined, Alike, Places, seated, least_in, most_in, Ran, Kept, Strides};
 ghost use Rattle.planner.specs.Segments.{written};
@@ -14,7 +14,7 @@ use crate::event::{Event, Finished};
 use crate::lining::{Settled, clear, gather, merge, row_of, seat, settle};
 use crate::stepping::{free_processors, nearest};
 use crate::steps::run_by_key;
-use plan_file::record::{RecordHead, put_record};
+use plan_file::record::{RecordHead, put_record, record_size};
 use rows::memory::Token;
 use rules::rule::Rule;
 
@@ -26,14 +26,9 @@ fn next_event(rows: &[Token], line: &[u8], running: usize, span: u64) -> Event
     ensures length { result.length ≡ min (least_in rows.now line.now running span) (span - most_in rows.now line.now running) }
     ensures kind { kind_number result.kind ≡ nearest_kind (least_in rows.now line.now running span) (most_in rows.now line.now running) span }
 {
-    let mut least = span;
-    if running > 0 {
-        least = rows[line[running - 1] as usize].left;
-    }
-    let mut most = 0;
-    if running < line.len() {
-        most = rows[line[running] as usize].left;
-    }
+    let (run, waiting) = line.split_at(running);
+    let least = run.last().map_or(span, |i| rows[*i as usize].left);
+    let most = waiting.first().map_or(0, |i| rows[*i as usize].left);
     nearest(least, most, span)
 }
 
@@ -92,18 +87,16 @@ fn step_line(
     span: u64,
 ) -> Stride
     requires kept { Kept (map (seated places.old) rows.old) rows.old line.old places.old }
-    requires sound { Sound processors span (map (seated places.old) rows.old) }
-    requires some { 0 < span }
-    requires short { span ≤ 2 ^ 54 }
+    requires ready { Ready processors span (map (seated places.old) rows.old) }
     ensures freed { result.freed ≤ length line.new }
     ensures within { result.event.length ≤ span }
     ensures step { (key : Key) → Lawful key → ByLeft key → Strides processors key span (map (seated places.old) rows.old) rows.new (drop result.freed line.new) places.new result.event.length (kind_number result.event.kind) }
 {
     let running = (processors as usize).min(line.len());
     let event = next_event(rows, line, running, span);
-    let settled = run_on(rows, &line[0..running], places, processors, event.length);
+    let settled = run_on(rows, &line[..running], places, processors, event.length);
     let kept = settled.kept;
-    rejoin(rows, line, &settled.ran[0..kept], running);
+    rejoin(rows, line, &settled.ran[..kept], running);
     Stride {
         event,
         freed: running - kept,
@@ -111,6 +104,7 @@ fn step_line(
 }
 
 // Makes steps over rows that fit until nothing of the span is left, and writes their records. The rule is not asked.
+// There are at most 256 rows, since a place of the line is one byte.
 fn run_line<R: Rule>(
     rows: &mut [Token],
     line: &mut [u8],
@@ -122,13 +116,8 @@ fn run_line<R: Rule>(
     requires by { ByLeft (R.Rule.ranks rule.now) }
     requires few { length rows.old ≤ 256 }
     requires line { length line.old ≡ length rows.old }
-    requires sound { Sound processors span rows.old }
-    requires short { span ≤ 2 ^ 54 }
-    requires room { (length rows.old + 1) * record_size processors ≤ length plan.old }
-    ensures rows { rows.new ≡ (steps (length rows.old + 1) processors (R.Rule.ranks rule.now) span rows.old).2 }
-    ensures plan { plan.new ≡ written processors (steps (length rows.old + 1) processors (R.Rule.ranks rule.now) span rows.old).0 plan.old }
-    ensures steps { result.steps ≡ length (steps (length rows.old + 1) processors (R.Rule.ranks rule.now) span rows.old).0 }
-    ensures bytes { result.bytes ≡ length (records_bytes processors (steps (length rows.old + 1) processors (R.Rule.ranks rule.now) span rows.old).0) }
+    requires finishes { Finishes processors span rows.old plan.old }
+    ensures { RunsOut processors (R.Rule.ranks rule.now) span rows.old plan.old rows.new plan.new result }
 {
     let m = processors as usize;
     let mut first = gather(rows, line);
@@ -138,14 +127,11 @@ fn run_line<R: Rule>(
     let mut at = 0;
     while left > 0 {
         let step = step_line(rows, &mut line[first..], &mut places, processors, left);
-        let head = RecordHead {
-            length: step.event.length,
-            kind: step.event.kind.number(),
-        };
-        put_record(&mut plan[at..], head, &places[0..m]);
+        let head = RecordHead::from(step.event);
+        put_record(&mut plan[at..], head, &places[..m]);
         first += step.freed;
         left -= step.event.length;
-        at += 9 + 2 * m;
+        at += record_size(processors);
         count += 1;
     }
     clear(rows, &places);
@@ -163,18 +149,15 @@ pub(crate) fn run_out<R: Rule>(
     span: u64,
     plan: &mut [u8],
 ) -> Finished
-    requires sound { Sound processors span rows.old }
-    requires short { span ≤ 2 ^ 54 }
-    requires room { (length rows.old + 1) * record_size processors ≤ length plan.old }
-    ensures rows { rows.new ≡ (steps (length rows.old + 1) processors (R.Rule.ranks rule.now) span rows.old).2 }
-    ensures plan { plan.new ≡ written processors (steps (length rows.old + 1) processors (R.Rule.ranks rule.now) span rows.old).0 plan.old }
-    ensures steps { result.steps ≡ length (steps (length rows.old + 1) processors (R.Rule.ranks rule.now) span rows.old).0 }
-    ensures bytes { result.bytes ≡ length (records_bytes processors (steps (length rows.old + 1) processors (R.Rule.ranks rule.now) span rows.old).0) }
+    requires { Finishes processors span rows.old plan.old }
+    ensures { RunsOut processors (R.Rule.ranks rule.now) span rows.old plan.old rows.new plan.new result }
 {
+    // by index, in memory of a fixed size: there is no heap, and the rows are written while the line stands
     let mut line = [0; 256];
     let count = rows.len();
+    // the rule itself says which loop serves: a closure for the step would have to bring the line along
     if count > line.len() || !rule.is_by_left() {
         return run_by_key(rows, rule, processors, span, plan);
     }
-    run_line(rows, &mut line[0..count], rule, processors, span, plan)
+    run_line(rows, &mut line[..count], rule, processors, span, plan)
 }

@@ -4,13 +4,13 @@ ghost use Rattle.std.specs.List.{range_with_len, AllByRecursion};
 ghost use Rattle.rows.specs.Tests.{has};
 ghost use Rattle.rows.specs.Kinds.{kind_number};
 ghost use Rattle.model.specs.Steps.{chosen, distance, moved, event, row_of, step};
-ghost use Rattle.model.proofs.Bounds.{Sound};
+ghost use Rattle.planner.specs.Runs.{OnBoard, Ready};
 ghost use Rattle.planner.specs.Segments.{segment_of};
 ghost use Rattle.planner.specs.Looking.{picked, least_left, most_left, nearest_kind, Runnable};
 
 use crate::event::Event;
 use choosing::entry::Entry;
-use choosing::{is_chosen, last_chosen};
+use choosing::ranking::Ranking;
 use rows::kind::Kind;
 use rows::memory::Token;
 use rows::row::Row;
@@ -28,17 +28,17 @@ struct Look {
 }
 
 // Looks over the rows. `last` is the last token chosen.
-fn look_over<R: Rule>(rows: &[Token], rule: &R, span: u64, last: Option<Entry>) -> Look
-    requires { AllByRecursion (λ x. x.processor ≤ 16) rows.now }
-    ensures taken { (p : ℕ) → p < 17 → slice_index_or result.taken p false ≡ has p (map (λ x. x.processor) (filter (picked (R.Rule.ranks rule.now) span last) rows.now)) }
-    ensures least { result.least ≡ least_left (picked (R.Rule.ranks rule.now) span last) span rows.now }
-    ensures most { result.most ≡ most_left (picked (R.Rule.ranks rule.now) span last) rows.now }
+fn look_over<R: Rule>(rows: &[Token], ranking: &Ranking<'_, R>, last: Option<Entry>) -> Look
+    requires { OnBoard rows.now }
+    ensures taken { (p : ℕ) → p < 17 → slice_index_or result.taken p false ≡ has p (map (λ x. x.processor) (filter (picked (R.Rule.ranks ranking.now.rule.now) ranking.now.span last) rows.now)) }
+    ensures least { result.least ≡ least_left (picked (R.Rule.ranks ranking.now.rule.now) ranking.now.span last) ranking.now.span rows.now }
+    ensures most { result.most ≡ most_left (picked (R.Rule.ranks ranking.now.rule.now) ranking.now.span last) rows.now }
 {
     let mut taken = [false; 17];
-    let mut least = span;
+    let mut least = ranking.span;
     let mut most: u64 = 0;
     for token in rows {
-        if is_chosen(token, rule, span, last) {
+        if ranking.is_chosen(token, last) {
             taken[token.processor as usize] = true;
             least = least.min(token.left);
         } else {
@@ -74,6 +74,7 @@ pub(crate) fn free_processors(taken: &[bool; 17], processors: usize) -> [u8; 16]
     ensures { (k : ℕ) → slice_index result k ≡ slice_index (filter (λ p. not (slice_index_or taken.now p false)) (range_with_len 1 processors)) k }
 {
     let mut free = [0; 16];
+    // by hand: after a loop over a zip with `iter_mut` a proof knows only how many places there are
     let mut count = 0;
     for i in 0..processors {
         if !taken[i + 1] {
@@ -90,29 +91,29 @@ struct Choice {
     processors: u8,
     // the last token chosen; none where all active ones are
     last: Option<Entry>,
-    // the processors for chosen tokens that have none, in order
+    // the processors for chosen tokens that have none, in order, and zeros behind: there is no heap for a list of them
     spare: [u8; 16],
-    length: u64,
-    kind: Kind,
+    event: Event,
 }
 
 // Runs the chosen rows, and gives the tags by processor. A chosen row without a processor takes the spare one of its
 // turn; a row that is not chosen has none.
-fn run<R: Rule>(rows: &mut [Token], rule: &R, span: u64, choice: &Choice) -> [u16; 16]
-    requires { Runnable choice.now.processors (picked (R.Rule.ranks rule.now) span choice.now.last) choice.now.length choice.now.spare rows.old }
-    ensures rows { rows.new ≡ map (moved choice.now.processors (picked (R.Rule.ranks rule.now) span choice.now.last) rows.old choice.now.length) rows.old }
-    ensures places { result ≡ row_of (map (moved choice.now.processors (picked (R.Rule.ranks rule.now) span choice.now.last) rows.old choice.now.length) rows.old) }
+fn run<R: Rule>(rows: &mut [Token], ranking: &Ranking<'_, R>, choice: &Choice) -> [u16; 16]
+    requires { Runnable choice.now.processors (picked (R.Rule.ranks ranking.now.rule.now) ranking.now.span choice.now.last) choice.now.event.length choice.now.spare rows.old }
+    ensures rows { rows.new ≡ map (moved choice.now.processors (picked (R.Rule.ranks ranking.now.rule.now) ranking.now.span choice.now.last) rows.old choice.now.event.length) rows.old }
+    ensures places { result ≡ row_of (map (moved choice.now.processors (picked (R.Rule.ranks ranking.now.rule.now) ranking.now.span choice.now.last) rows.old choice.now.event.length) rows.old) }
 {
     let mut places = [0; 16];
+    // counted: it is by its turn that a token takes a spare processor
     let mut turn = 0;
     for token in rows.iter_mut() {
-        if is_chosen(token, rule, span, choice.last) {
+        if ranking.is_chosen(token, choice.last) {
             if token.processor == 0 {
                 token.processor = choice.spare[turn];
                 turn += 1;
             }
             places[token.processor as usize - 1] = token.tag;
-            token.left -= choice.length;
+            token.left -= choice.event.length;
         } else {
             token.processor = 0;
         }
@@ -121,27 +122,22 @@ fn run<R: Rule>(rows: &mut [Token], rule: &R, span: u64, choice: &Choice) -> [u1
 }
 
 // Chooses who runs, where and how far.
-fn choose<R: Rule>(rows: &[Token], rule: &R, processors: u8, span: u64) -> Choice
-    requires sound { Sound processors span rows.now }
-    requires some { 0 < span }
-    requires short { span ≤ 2 ^ 54 }
-    ensures runnable { Runnable processors (chosen processors (R.Rule.ranks rule.now) span rows.now) result.length result.spare rows.now }
+fn choose<R: Rule>(rows: &[Token], ranking: &Ranking<'_, R>, processors: u8) -> Choice
+    requires { Ready processors ranking.now.span rows.now }
+    ensures runnable { Runnable processors (chosen processors (R.Rule.ranks ranking.now.rule.now) ranking.now.span rows.now) result.event.length result.spare rows.now }
     ensures same { result.processors ≡ processors }
-    ensures picks { (x : Token) → chosen processors (R.Rule.ranks rule.now) span rows.now x ≡ picked (R.Rule.ranks rule.now) span result.last x }
-    ensures length { result.length ≡ distance (chosen processors (R.Rule.ranks rule.now) span rows.now) span rows.now }
-    ensures kind { kind_number result.kind ≡ event (chosen processors (R.Rule.ranks rule.now) span rows.now) result.length (span - result.length) rows.now }
+    ensures picks { (x : Token) → chosen processors (R.Rule.ranks ranking.now.rule.now) ranking.now.span rows.now x ≡ picked (R.Rule.ranks ranking.now.rule.now) ranking.now.span result.last x }
+    ensures length { result.event.length ≡ distance (chosen processors (R.Rule.ranks ranking.now.rule.now) ranking.now.span rows.now) ranking.now.span rows.now }
+    ensures kind { kind_number result.event.kind ≡ event (chosen processors (R.Rule.ranks ranking.now.rule.now) ranking.now.span rows.now) result.event.length (ranking.now.span - result.event.length) rows.now }
 {
     let m = processors as usize;
-    let last = last_chosen(rows, rule, span, m);
-    let look = look_over(rows, rule, span, last);
-    let event = nearest(look.least, look.most, span);
-    let spare = free_processors(&look.taken, m);
+    let last = ranking.last_chosen(rows, m);
+    let look = look_over(rows, ranking, last);
     Choice {
         processors,
         last,
-        spare,
-        length: event.length,
-        kind: event.kind,
+        spare: free_processors(&look.taken, m),
+        event: nearest(look.least, look.most, ranking.span),
     }
 }
 
@@ -153,19 +149,15 @@ pub(crate) fn advance<R: Rule>(
     span: u64,
     row: &mut Row,
 ) -> Event
-    requires sound { Sound processors span rows.old }
-    requires some { 0 < span }
-    requires short { span ≤ 2 ^ 54 }
+    requires { Ready processors span rows.old }
     ensures rows { rows.new ≡ (step processors (R.Rule.ranks rule.now) span rows.old).tokens }
     ensures segment { segment_of result row.new ≡ (step processors (R.Rule.ranks rule.now) span rows.old).segment }
     ensures within { result.length ≤ span }
 {
-    let choice = choose(rows, rule, processors, span);
-    let places = run(rows, rule, span, &choice);
+    let ranking = Ranking { rule, span };
+    let choice = choose(rows, &ranking, processors);
+    let places = run(rows, &ranking, &choice);
     // no tag stands twice in it, so the row takes it
     let _ = row.fill(places);
-    Event {
-        length: choice.length,
-        kind: choice.kind,
-    }
+    choice.event
 }

@@ -4,7 +4,7 @@ ghost use Rattle.rows.specs.Kinds.{kind_number};
 ghost use Rattle.model.specs.Answers.{ChangesAnswering};
 ghost use Rattle.plan_file.specs.Records.{record_size, records_bytes};
 ghost use Rattle.model.specs.Planes.{stepped, steps, finished};
-ghost use Rattle.model.proofs.Bounds.{Sound};
+ghost use Rattle.planner.specs.Runs.{Finishes, RunsOut};
 ghost use Rattle.planner.specs.Segments.{written};
 ghost use Rattle.planner.specs.Views.{plane};
 
@@ -13,7 +13,7 @@ use crate::event::{Event, Finished};
 use crate::running::run_out;
 use crate::stepping::advance;
 use plan_file::plan::append_record;
-use plan_file::record::RecordHead;
+use plan_file::record::{RecordHead, record_size};
 use rows::memory::Token;
 use rows::refusal::Refusal;
 use rows::row::Row;
@@ -38,7 +38,7 @@ impl Plane {
         }
         let count = self.board.count as usize;
         let event = advance(
-            &mut tokens[0..count],
+            &mut tokens[..count],
             rule,
             self.board.processors,
             self.span,
@@ -69,16 +69,17 @@ impl Plane {
         }
         let count = self.board.count as usize;
         let processors = self.board.processors;
-        if plan.len() < (count + 1) * (9 + 2 * processors as usize) {
+        if plan.len() < (count + 1) * record_size(processors) {
             return Err(Refusal::BufferShort);
         }
-        let finished = run_out(&mut tokens[0..count], rule, processors, span, plan);
+        let finished = run_out(&mut tokens[..count], rule, processors, span, plan);
         self.span = 0;
         Ok(finished)
     }
 }
 
 // Makes steps over rows that fit until nothing of the span is left, each by the keys of the rule, and writes their records.
+// The loop is not shared with `run_line`: a trait for what makes a step, with its laws, would be longer than the loop.
 pub(crate) fn run_by_key<R: Rule>(
     rows: &mut [Token],
     rule: &R,
@@ -86,13 +87,8 @@ pub(crate) fn run_by_key<R: Rule>(
     span: u64,
     plan: &mut [u8],
 ) -> Finished
-    requires sound { Sound processors span rows.old }
-    requires short { span ≤ 2 ^ 54 }
-    requires room { (length rows.old + 1) * record_size processors ≤ length plan.old }
-    ensures rows { rows.new ≡ (steps (length rows.old + 1) processors (R.Rule.ranks rule.now) span rows.old).2 }
-    ensures plan { plan.new ≡ written processors (steps (length rows.old + 1) processors (R.Rule.ranks rule.now) span rows.old).0 plan.old }
-    ensures steps { result.steps ≡ length (steps (length rows.old + 1) processors (R.Rule.ranks rule.now) span rows.old).0 }
-    ensures bytes { result.bytes ≡ length (records_bytes processors (steps (length rows.old + 1) processors (R.Rule.ranks rule.now) span rows.old).0) }
+    requires { Finishes processors span rows.old plan.old }
+    ensures { RunsOut processors (R.Rule.ranks rule.now) span rows.old plan.old rows.new plan.new result }
 {
     let mut row = Row::new();
     let mut left = span;
@@ -100,10 +96,7 @@ pub(crate) fn run_by_key<R: Rule>(
     let mut at = 0;
     while left > 0 {
         let event = advance(rows, rule, processors, left, &mut row);
-        let head = RecordHead {
-            length: event.length,
-            kind: event.kind.number(),
-        };
+        let head = RecordHead::from(event);
         at = append_record(plan, at, processors, head, &row).unwrap();
         left -= event.length;
         count += 1;

@@ -27,6 +27,6 @@ impl Board {
             return Err(Refusal::Memory);
         }
         let count = self.count as usize;
-        fill_ahead(&tasks[0..count], self.tick, memory, places)
+        fill_ahead(&tasks[..count], self.tick, memory, places)
     }
 }

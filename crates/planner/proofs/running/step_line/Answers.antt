@@ -1,23 +1,23 @@
-use Rattle.std.proofs.Common.{◌≡◌, ◌-◌, ◌≤◌, ◌++◌, map, length, take, drop, sym, ap, ◌∙◌, subst, arith, rules}
+use Rattle.std.proofs.Common.{◌≡◌, ◌-◌, ◌++◌, length, take, drop, sym, ap, ◌∙◌, subst, arith}
 use mathlib.Core.Path.{transport}
 use Rattle.std.proofs.lemmas.List.{length-take}
 use Rattle.rows.specs.Kinds.{kind_number}
 use Rattle.rules.specs.Keys.{largest_first}
 use Rattle.model.proofs.Largest.{lawful}
-use Rattle.planner.specs.Lining.{Lined, Alike, Places, Ran, those, seated}
+use Rattle.planner.specs.Lining.{Lined, Alike, those}
 use Rattle.planner.proofs.Standing.{places_of}
-use Rattle.planner.proofs.Striding.{by_largest, front_places, most_fits, few_left, after_places, copy_front, copy_long, front_lined, back_lined, strides}
+use Rattle.planner.proofs.Striding.{by_largest, front_places, most_fits, Went, few_left, after_places, copy_front, copy_long, front_lined, back_lined, strides}
 use Rattle.planner.proofs.running.step_line.Goals as goal
+use Rattle.planner.proofs.running.step_line.Goals.{After-run_on-settled}
 
 pub next_event-event-requires : goal.next_event-event-requires
 next_event-event-requires c =
     let rows = c.args.rows.now in
     let line = c.args.line.now in
-    let places = c.args.places.now in
     record {
       inside = (places_of rows line c.requires.kept.lines).inside;
       within = omega (arith, c.min-running.ensures);
-      low = most_fits c.args.processors c.args.span (map (seated places) rows) rows line places c.requires.sound c.requires.some c.requires.short c.requires.kept c.min-running.result c.min-running.ensures;
+      low = most_fits c.requires.ready c.requires.kept c.min-running.ensures;
     }
 
 pub run_on-settled-requires : goal.run_on-settled-requires
@@ -25,104 +25,50 @@ run_on-settled-requires c =
     let rows = c.args.rows.now in
     let line = c.args.line.now in
     let r = c.min-running.result in
-    let e : r - 0 ≡ r = omega arith in
     record {
-      run = subst (λ k. Places rows (take k line)) (sym e) (front_places rows r line (places_of rows line c.requires.kept.lines));
-      few = omega (arith, length-take (r - 0) line, c.min-running.ensures, c.requires.sound.few);
-      within = c.requires.sound.few;
+      run = front_places rows r line (places_of rows line c.requires.kept.lines);
+      few = omega (arith, length-take r line, c.min-running.ensures, c.requires.ready.sound.few);
+      within = c.requires.ready.sound.few;
     }
 
-pub slice_bounds-rejoin-end : goal.slice_bounds-rejoin-end
-slice_bounds-rejoin-end c =
-    let m = c.args.processors in
-    let rows = c.args.rows.now in
-    let line = c.args.line.now in
-    let places = c.args.places.now in
-    let r = c.min-running.result in
-    let d = c.next_event-event.result.length in
-    let left = c.run_on-settled.result.kept in
-    let after = c.run_on-settled.new.rows in
-    let next = c.run_on-settled.new.places in
-    let e : r - 0 ≡ r = omega arith in
-    let ran : Ran m d rows (take r line) places after next left = subst (λ k. Ran m d rows (take k line) places after next left) e c.run_on-settled.ensures.ran in
-    let few : left ≤ 16 = omega (
-      arith,
-      few_left m c.args.span (map (seated places) rows) rows line places c.requires.sound c.requires.some c.requires.short c.requires.kept r c.min-running.ensures d left after next ran,
-      c.min-running.ensures,
-      c.requires.sound.few,
-    ) in
-    search rules
+-- those at the front have run
+went : (c : goal.After-run_on-settled) → Went c.args.processors c.args.span c.args.rows.now c.args.line.now c.args.places.now c.min-running.result c.next_event-event.result.length
+    c.run_on-settled.result.kept c.run_on-settled.new.rows c.run_on-settled.new.places
+went c = record { ready = c.requires.ready; was = c.requires.kept; running = c.min-running.ensures; units = c.next_event-event.ensures.length; ran = c.run_on-settled.ensures.ran }
+
+-- and the copy begins with those of them that have time left
+front_is : (c : goal.After-run_on-settled) → take c.run_on-settled.result.kept c.run_on-settled.result.ran ≡ take c.run_on-settled.result.kept c.args.line.now
+front_is c = copy_front c.args.line.now c.run_on-settled.result.ran c.min-running.result c.run_on-settled.result.kept c.run_on-settled.ensures.places (omega (arith, c.min-running.ensures)) (few_left (went c))
+
+front_long : (c : goal.After-run_on-settled) → length (take c.run_on-settled.result.kept c.run_on-settled.result.ran) ≡ c.run_on-settled.result.kept
+front_long c = copy_long c.args.line.now c.run_on-settled.result.ran c.min-running.result c.run_on-settled.result.kept (front_is c) (omega (arith, c.min-running.ensures)) (few_left (went c))
 
 pub rejoin-requires : goal.rejoin-requires
 rejoin-requires c =
-    let m = c.args.processors in
-    let span = c.args.span in
-    let rows = c.args.rows.now in
-    let line = c.args.line.now in
-    let places = c.args.places.now in
-    let ts = map (seated places) rows in
-    let r = c.min-running.result in
-    let within : r ≤ length line = omega (arith, c.min-running.ensures) in
-    let d = c.next_event-event.result.length in
-    let copy = c.run_on-settled.result.ran in
-    let left = c.run_on-settled.result.kept in
-    let after = c.run_on-settled.new.rows in
-    let next = c.run_on-settled.new.places in
-    let e : r - 0 ≡ r = omega arith in
-    let ran : Ran m d rows (take r line) places after next left = subst (λ k. Ran m d rows (take k line) places after next left) e c.run_on-settled.ensures.ran in
-    let few = few_left m span ts rows line places c.requires.sound c.requires.some c.requires.short c.requires.kept r c.min-running.ensures d left after next ran in
-    let is : take (left - 0) copy ≡ take left line = copy_front line copy r left c.run_on-settled.ensures.places within few in
-    let long : length (take (left - 0) copy) ≡ left = copy_long line copy r left is within few in
+    let ran = (goal.at.rejoin-requires c).After-run_on-settled in
+    let it = went ran in
+    let long = front_long ran in
     record {
-      same = is ∙ ap (λ k. take k line) (sym long);
-      within = within;
-      left = omega (arith, long, few);
-      inside = (after_places m span ts rows line places c.requires.sound c.requires.some c.requires.short c.requires.kept r c.min-running.ensures d left after next ran).inside;
-      ran = subst (λ l. Lined (those after l)) (sym is)
-          (front_lined m span ts rows line places c.requires.sound c.requires.some c.requires.short c.requires.kept r c.min-running.ensures d left after next ran largest_first lawful by_largest c.next_event-event.ensures.length);
-      rest = back_lined m span ts rows line places c.requires.sound c.requires.some c.requires.short c.requires.kept r c.min-running.ensures d left after next ran largest_first lawful by_largest c.next_event-event.ensures.length;
+      same = front_is ran ∙ ap (λ k. take k c.args.line.now) (sym long);
+      within = omega (arith, c.min-running.ensures);
+      left = omega (arith, long, few_left it);
+      inside = (after_places it).inside;
+      ran = subst (λ l. Lined (those c.run_on-settled.new.rows l)) (sym (front_is ran)) (front_lined it largest_first lawful by_largest);
+      rest = back_lined it largest_first lawful by_largest;
     }
-
-pub overflow_sub-result : goal.overflow_sub-result
-overflow_sub-result c =
-    let m = c.args.processors in
-    let rows = c.args.rows.now in
-    let line = c.args.line.now in
-    let places = c.args.places.now in
-    let r = c.min-running.result in
-    let d = c.next_event-event.result.length in
-    let left = c.run_on-settled.result.kept in
-    let after = c.run_on-settled.new.rows in
-    let next = c.run_on-settled.new.places in
-    let e : r - 0 ≡ r = omega arith in
-    let ran : Ran m d rows (take r line) places after next left = subst (λ k. Ran m d rows (take k line) places after next left) e c.run_on-settled.ensures.ran in
-    few_left m c.args.span (map (seated places) rows) rows line places c.requires.sound c.requires.some c.requires.short c.requires.kept r c.min-running.ensures d left after next ran
 
 pub returns : goal.returns
 returns c =
-    let m = c.args.processors in
-    let span = c.args.span in
-    let rows = c.args.rows.now in
-    let line = c.args.line.now in
-    let places = c.args.places.now in
-    let ts = map (seated places) rows in
+    let ran = (goal.at.returns c).After-run_on-settled in
     let r = c.min-running.result in
-    let within : r ≤ length line = omega (arith, c.min-running.ensures) in
-    let d = c.next_event-event.result.length in
-    let copy = c.run_on-settled.result.ran in
     let left = c.run_on-settled.result.kept in
-    let after = c.run_on-settled.new.rows in
-    let next = c.run_on-settled.new.places in
-    let e : r - 0 ≡ r = omega arith in
-    let ran : Ran m d rows (take r line) places after next left = subst (λ k. Ran m d rows (take k line) places after next left) e c.run_on-settled.ensures.ran in
-    let few = few_left m span ts rows line places c.requires.sound c.requires.some c.requires.short c.requires.kept r c.min-running.ensures d left after next ran in
-    let is : take (left - 0) copy ≡ take left line = copy_front line copy r left c.run_on-settled.ensures.places within few in
-    let long : length (take (left - 0) copy) ≡ left = copy_long line copy r left is within few in
+    let now = c.rejoin.new.line in
+    let few = few_left (went ran) in
+    let long = front_long ran in
     record {
       freed = omega (arith, c.min-running.ensures, c.rejoin.auto.line);
       within = omega (arith, c.next_event-event.ensures.length);
-      step = λ key law by. strides m span ts rows line places c.requires.sound c.requires.some c.requires.short c.requires.kept r c.min-running.ensures d left after next ran key law by c.next_event-event.ensures.length
-          (kind_number c.next_event-event.result.kind) (drop (r - left) c.rejoin.new.line) c.next_event-event.ensures.kind
-          (transport (λ j. Alike (is j ++ drop r line) (drop (r - long j) c.rejoin.new.line)) c.rejoin.ensures.same)
-          (subst (λ k. Lined (those after (drop (r - k) c.rejoin.new.line))) long c.rejoin.ensures.lined);
+      step = λ key law by. strides (went ran) key law by (kind_number c.next_event-event.result.kind) (drop (r - left) now) c.next_event-event.ensures.kind
+          (transport (λ j. Alike (front_is ran j ++ drop r c.args.line.now) (drop (r - long j) now)) c.rejoin.ensures.same)
+          (subst (λ k. Lined (those c.run_on-settled.new.rows (drop (r - k) now))) long c.rejoin.ensures.lined);
     }

@@ -15,7 +15,7 @@ run-places-requires g c =
     let told = c.choose-choice.ensures in
     let r = c.choose-choice.result in
     let same : chosen c.args.processors (g.R.Rule.ranks c.args.rule.now) c.args.span c.args.rows.now ≡ picked (g.R.Rule.ranks c.args.rule.now) c.args.span r.last = λ j x. told.picks x j in
-    transport (λ j. Runnable (sym told.same j) (same j) r.length r.spare c.args.rows.now) told.runnable
+    transport (λ j. Runnable (sym told.same j) (same j) r.event.length r.spare c.args.rows.now) told.runnable
 
 pub returns : goal.returns
 returns g c =
@@ -29,7 +29,7 @@ returns g c =
     let picks : Token → Bool = chosen m key span ts in
     let same : picks ≡ picked key span r.last = λ j x. told.picks x j in
     let far = distance picks span ts in
-    let after : map (moved r.processors (picked key span r.last) ts r.length) ts ≡ map (moved m picks ts far) ts =
+    let after : map (moved r.processors (picked key span r.last) ts r.event.length) ts ≡ map (moved m picks ts far) ts =
     λ j. map (moved (told.same j) (sym same j) ts (told.length j)) ts in
     let places : c.run-places.result ≡ row_of (map (moved m picks ts far) ts) = c.run-places.ensures.places ∙ ap row_of after in
     let apart : distinct c.run-places.result ≡ true =

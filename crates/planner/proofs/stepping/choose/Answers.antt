@@ -6,7 +6,9 @@ use Rattle.choosing.specs.declared.entry.Entry.{Entry}
 use Rattle.choosing.specs.Keeping.{Picks}
 use Rattle.planner.specs.Looking.{picked, least_left, most_left, Runnable}
 use Rattle.planner.proofs.Chooses.{on_processors, runnable, most_low, far_is, nearest_is, unmarked}
+use Rattle.planner.proofs.stepping.choose.Given as given
 use Rattle.planner.proofs.stepping.choose.Goals as goal
+use Rattle.planner.proofs.stepping.choose.Goals.{After-look_over-look}
 
 -- the choice by the last one chosen is the choice by rank
 same_choice : (m : ℕ) (key : Key) (span : ℕ) (ts : List Token) (last : Option Entry) → 1 ≤ m → m ≤ 16
@@ -17,43 +19,42 @@ same_choice m key span ts last some few told =
     λ j x. e x j
 
 pub look_over-look-requires : goal.look_over-look-requires
-look_over-look-requires g c = on_processors c.args.processors c.args.span c.args.rows.now c.requires.sound
+look_over-look-requires g c = on_processors c.args.processors c.args.ranking.now.span c.args.rows.now c.requires.sound
 
-pub nearest-event-requires : goal.nearest-event-requires
-nearest-event-requires g c =
-    let m = c.args.processors in
-    let key = g.R.Rule.ranks c.args.rule.now in
-    let law = g.met.R.Rule.lawful c.args.rule.now in
-    let span = c.args.span in
-    let ts = c.args.rows.now in
-    let same = same_choice m key span ts c.last_chosen-last.result c.requires.sound.some c.requires.sound.few c.last_chosen-last.ensures in
-    let look = c.look_over-look in
-    most_low m key law span ts c.requires.sound c.requires.some c.requires.short look.result.least look.result.most
-    (look.ensures.least ∙ ap (λ f. least_left f span ts) (sym same)) (look.ensures.most ∙ ap (λ f. most_left f ts) (sym same))
+module _ (g : given.Over) (c : goal.After-look_over-look g) where
+  abbrev picks : Token → Bool
+  picks = chosen c.args.processors (g.R.Rule.ranks c.args.ranking.now.rule.now) c.args.ranking.now.span c.args.rows.now
+
+  same : picks ≡ picked (g.R.Rule.ranks c.args.ranking.now.rule.now) c.args.ranking.now.span c.last_chosen-last.result
+  same = same_choice c.args.processors (g.R.Rule.ranks c.args.ranking.now.rule.now) c.args.ranking.now.span c.args.rows.now c.last_chosen-last.result c.requires.sound.some c.requires.sound.few c.last_chosen-last.ensures
+
+  least_is : c.look_over-look.result.least ≡ least_left picks c.args.ranking.now.span c.args.rows.now
+  least_is = c.look_over-look.ensures.least ∙ ap (λ f. least_left f c.args.ranking.now.span c.args.rows.now) (sym same)
+
+  most_is : c.look_over-look.result.most ≡ most_left picks c.args.rows.now
+  most_is = c.look_over-look.ensures.most ∙ ap (λ f. most_left f c.args.rows.now) (sym same)
+
+pub nearest-requires : goal.nearest-requires
+nearest-requires g c =
+    let look = (goal.at.nearest-requires g c).After-look_over-look in
+    most_low (g.R.Rule.ranks c.args.ranking.now.rule.now) (g.met.R.Rule.lawful c.args.ranking.now.rule.now) c.requires (least_is g look) (most_is g look)
 
 pub returns : goal.returns
 returns g c =
     let m = c.args.processors in
-    let key = g.R.Rule.ranks c.args.rule.now in
-    let law = g.met.R.Rule.lawful c.args.rule.now in
-    let span = c.args.span in
+    let key = g.R.Rule.ranks c.args.ranking.now.rule.now in
+    let law = g.met.R.Rule.lawful c.args.ranking.now.rule.now in
+    let span = c.args.ranking.now.span in
     let ts = c.args.rows.now in
-    let ok = c.requires.sound in
-    let same = same_choice m key span ts c.last_chosen-last.result ok.some ok.few c.last_chosen-last.ensures in
-    let picks : Token → Bool = chosen m key span ts in
-    let look = c.look_over-look in
-    let least = look.result.least in
-    let most = look.result.most in
-    let least_is : least ≡ least_left picks span ts = look.ensures.least ∙ ap (λ f. least_left f span ts) (sym same) in
-    let most_is : most ≡ most_left picks ts = look.ensures.most ∙ ap (λ f. most_left f ts) (sym same) in
-    let d = c.nearest-event.result.length in
-    let d-is : d ≡ distance picks span ts = c.nearest-event.ensures.length ∙ far_is m key law span ts ok c.requires.some c.requires.short least most least_is most_is in
-    let spare_is : (k : ℕ) → get_or c.free_processors-spare.result k 0 ≡ get_or (free m picks ts) k 0 =
-    λ k. c.free_processors-spare.ensures k ∙ ap (λ l. get_or l k 0) (unmarked m (picked key span c.last_chosen-last.result) ts look.result.taken ok.few look.ensures.taken ∙ ap (λ f. free m f ts) (sym same)) in
+    let look = (goal.at.returns g c).After-look_over-look in
+    let chooses : Token → Bool = chosen m key span ts in
+    let d-is : c.nearest.result.length ≡ distance chooses span ts = c.nearest.ensures.length ∙ far_is key law c.requires (least_is g look) (most_is g look) in
+    let spare_is : (k : ℕ) → get_or c.free_processors.result k 0 ≡ get_or (free m chooses ts) k 0 =
+    λ k. c.free_processors.ensures k ∙ ap (λ l. get_or l k 0) (unmarked m (picked key span c.last_chosen-last.result) ts c.look_over-look.result.taken c.requires.sound.few c.look_over-look.ensures.taken ∙ ap (λ f. free m f ts) (sym (same g look))) in
     record {
-      runnable = subst (λ k. Runnable m picks k c.free_processors-spare.result ts) (sym d-is) (runnable m key law span ts ok c.requires.some c.requires.short c.free_processors-spare.result spare_is);
+      runnable = subst (λ k. Runnable m chooses k c.free_processors.result ts) (sym d-is) (runnable key law c.requires c.free_processors.result spare_is);
       same = refl;
-      picks = λ x. ap (λ f. f x) same;
+      picks = λ x. ap (λ f. f x) (same g look);
       length = d-is;
-      kind = c.nearest-event.ensures.kind ∙ nearest_is m key law span ts ok c.requires.some c.requires.short least most least_is most_is ∙ ap (λ k. event picks k (span - k) ts) (sym d-is);
+      kind = c.nearest.ensures.kind ∙ nearest_is key law c.requires (least_is g look) (most_is g look) ∙ ap (λ k. event chooses k (span - k) ts) (sym d-is);
     }

@@ -1,13 +1,7 @@
 use Rattle.std.proofs.Common.{◌≡◌, ℕ, ◌<◌, Bool, false, not, get_or, ap, subst, arith}
-use Rattle.planner.proofs.Free.{Filled, filled_none, filled_more, filled_same, filled_at}
+use Rattle.planner.proofs.Free.{Filled, filled_more, filled_same, filled_at}
 use Rattle.planner.proofs.stepping.free_processors.Goals as goal
 use Rattle.planner.proofs.stepping.free_processors.Goals.{then-not-taken-i, else-not-taken-i}
-
-pub loop-i-init : goal.loop-i-init
-loop-i-init c = filled_none (λ p. not (get_or c.args.taken.now p false))
-
-pub bounds-free-count : goal.bounds-free-count
-bounds-free-count c = omega (arith, c.loop-i.invariant.few)
 
 pub loop-i-preserved : goal.loop-i-preserved
 loop-i-preserved c =
