@@ -1,13 +1,16 @@
 -- The earliest release of tasks, and the ticks at which planes end.
-use Rattle.std.proofs.Common.{◌≡◌, ℕ, zero, suc, ◌+◌, ◌*◌, ◌<◌, ◌≤◌, List, [], ◌∷◌, length, get_or, ap, ◌∙◌, ⊎_elim, suc-mul, arith}
+use Rattle.std.proofs.Common.{if◌then◌else◌, ◌&&◌, true, nat_lt, Some, None, refl, lt-ltb, ◌≡◌, ℕ, zero, suc, ◌+◌, ◌*◌, ◌<◌, ◌≤◌, List, [], ◌∷◌, map, length, get_or, Contains, ap, ⊎_elim, suc-mul, arith}
 use Rattle.std.specs.List.{AllByRecursion}
 use Rattle.std.proofs.ByRecursion.{All-weaker}
 use Rattle.std.proofs.lemmas.Bool.{cases_lt}
+use Rattle.std.proofs.lemmas.List.{get_or-map, length-map}
+use Rattle.std.proofs.lemmas.Bool.Decides.{nat_tests}
 use Rattle.rows.specs.declared.memory.Task.{Task}
+use Rattle.rows.specs.Tests.{all}
+use Rattle.rows.specs.Releases.{timely}
 use Rattle.rows.specs.Limits.{largest_scale}
 use Rattle.model.specs.Tables.{next_release, earliest, zeros}
 use Rattle.model.proofs.Releases.{next_after, next_near}
-use Rattle.planner.proofs.Releases.{least, least_is}
 use Rattle.whole_plan.specs.Ends.{tick_after, Released}
 
 next_bounds : (tick : ℕ) (t : Task) → Released tick t → (tick < next_release tick t) × (next_release tick t ≤ tick + largest_scale)
@@ -30,22 +33,35 @@ earliest_near tick (suc i) (t ∷ []) ready h = absurd (omega arith)
 earliest_near tick zero (t ∷ (u ∷ ts)) ready h = omega (arith, next_near tick t ready.0.past)
 earliest_near tick (suc i) (t ∷ (u ∷ ts)) ready h = omega (arith, earliest_near tick i (u ∷ ts) ready.1 (omega arith))
 
+-- and so within the shortest
+pub earliest_within : (tick period : ℕ) (ts : List Task) → AllByRecursion (Released tick) ts → Contains (map (λ t. t.period) ts) period → earliest tick ts ≤ tick + period
+earliest_within tick period ts ready h =
+    let inside : h.0 < length ts = rw length-map at h.1 in
+    let here = get_or-map (λ (t : Task). t.period) ts h.0 zeros period inside in
+    omega (arith, earliest_near tick h.0 ts ready inside, here, h.2)
+
 -- so many planes, each of them so long at the most
 pub ends_within : (ts : List Task) (most : ℕ) → ((tick : ℕ) → earliest tick ts ≤ tick + most) → (k : ℕ) → tick_after k ts ≤ k * most
 ends_within ts most near zero = omega arith
 ends_within ts most near (suc k) = omega (arith, near (tick_after k ts), ends_within ts most near k, suc-mul k most)
 
--- from far off the least is the earliest
-pub least_earliest : (tick far : ℕ) (ts : List Task) → AllByRecursion (Released tick) ts → 0 < length ts → tick + largest_scale ≤ far
-    → least tick far ts ≡ earliest tick ts
-least_earliest tick far [] ready some h = absurd (omega arith)
-least_earliest tick far (t ∷ ts) ready some h =
-    least_is tick far t ts ∙ omega (arith, (earliest_bounds tick (t ∷ ts) ready some).1)
+all_timely : (tick : ℕ) (ts : List Task) → AllByRecursion (Released tick) ts → all (timely tick) ts ≡ true
+all_timely tick [] ready = refl
+all_timely tick (t ∷ ts) ready =
+    let first : timely tick t ≡ true = let h = ready.0 in let a = h.past in let b = h.some in grind (arith, nat_tests) in
+    rw (first, all_timely tick ts ready.1) refl
 
 module _ (ts : List Task) (some : 0 < length ts) (ready : AllByRecursion (Released 0) ts) where
   -- who was released by tick 0 was so by each later tick
   pub ready_at : (tick : ℕ) → AllByRecursion (Released tick) ts
   ready_at tick = All-weaker (Released 0) (Released tick) (λ t r. record { past = omega (arith, r.past); some = r.some; few = r.few }) ts ready
+
+  -- so that the earliest release after any of them is known
+  pub found_at : (tick : ℕ) → (if nat_lt 0 (length ts) && all (timely tick) ts then Some (earliest tick ts) else None) ≡ Some (earliest tick ts)
+  found_at tick =
+      let each = all_timely tick ts (ready_at tick) in
+      let one : nat_lt 0 (length ts) ≡ true = lt-ltb 0 (length ts) some in
+      rw (one, each) refl
 
   -- more planes end later
   pub ends_later : (j k : ℕ) → j ≤ k → tick_after j ts ≤ tick_after k ts

@@ -1,6 +1,5 @@
 pub mod Words
 pub mod Earliest
-pub mod TableRows
 pub mod Through
 pub mod Reached
 pub mod Onward

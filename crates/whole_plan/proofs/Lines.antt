@@ -72,22 +72,19 @@ two_digit_line e n is h =
 
 -- What the answer of the whole plan tells.
 
-never : {A : Type 0} (a : A) (e : Refusal) → ◌≡◌ {A = Result A Refusal} (Ok a) (Err e) → ⊥
-never a e h = let z : ◌≡◌ {A = ℕ} 0 1 = cc in omega arith
-
 pub plan_made : (d : Result (List ℕ) Refusal) (n : ℕ) (out after : List ℕ) → Ok n ≡ plan_length d → after ≡ with_plan d out → n ≤ length out
     → (n ≡ length (fitted out (plan_or_line d))) × (after ≡ in_front (fitted out (plan_or_line d)) out)
 plan_made (Ok bytes) n out after a b h =
     let k = value n (length bytes) a in
     let t : bytes ≡ fitted out bytes = sym (take_all (length out) bytes (omega arith)) in
     (k ∙ ap length t, b ∙ ap (λ x. in_front x out) t)
-plan_made (Err e) n out after a b h = absurd (never n e a)
+plan_made (Err e) n out after a b h = absurd (cc)
 
 pub refused_is : (d : Result (List ℕ) Refusal) (e : Refusal) → Err e ≡ plan_length d → d ≡ Err e
-refused_is (Ok bytes) e h = absurd (never (length bytes) e (sym h))
+refused_is (Ok bytes) e h = absurd (cc)
 refused_is (Err f) e h = let z : f ≡ e = cc in ap Err z
 
 -- an answer that is not below 0 is a length
 pub length_is : (d : Result ℕ Refusal) (n : ℕ) → length_or_minus d ≡ pos n → d ≡ Ok n
 length_is (Ok m) n h = let e : m ≡ n = cc in ap Ok e
-length_is (Err e) n h = absurd (let z : ◌≡◌ {A = ℕ} 0 1 = cc in omega arith)
+length_is (Err e) n h = absurd (cc)

@@ -17,7 +17,8 @@ use Rattle.plan_file.specs.Opening.{file_processors, file_scale}
 use Rattle.plan_file.specs.Files.{file_bytes, file_fault, file_segments}
 use Rattle.plan_file.proofs.WholeFile.{written_file_reads}
 use Rattle.table_file.specs.declared.table.TableRow.{TableRow}
-use Rattle.table_file.specs.Tables.{table_fault, table_processors, table_scale, table_planes, table_count, table_row_at}
+use Rattle.table_file.specs.Tables.{table_fault, table_processors, table_scale, table_planes, table_count, table_row_at, table_rows}
+use Rattle.table_file.proofs.TableRows.{rows_count}
 use Rattle.model.specs.State.{Rest, opened, unless}
 use Rattle.model.specs.Tables.{fresh}
 use Rattle.model.specs.Histories.{total}
@@ -28,10 +29,9 @@ use Rattle.model.proofs.Releases.{divides}
 use Rattle.model.proofs.Resting.{Resting}
 use Rattle.model.proofs.Accepted.{Opened, opened_ok}
 use Rattle.model.proofs.Calls.{Inv}
-use Rattle.whole_plan.specs.Planning.{table_rows, rows_admitted, no_tasks, no_tokens, table_admitted, Planned, plane_room, planes_planned, plan_room, whole_plan, records}
+use Rattle.whole_plan.specs.Planning.{rows_admitted, no_tasks, no_tokens, table_admitted, Planned, plane_room, planes_planned, plan_room, whole_plan, records}
 use Rattle.whole_plan.specs.Ends.{tick_after, Released, planes_check}
 use Rattle.whole_plan.proofs.Words.{then_ok, then_on, then_err}
-use Rattle.whole_plan.proofs.TableRows.{rows_count}
 use Rattle.whole_plan.proofs.Reached.{Grown, at_rest, rows_grown}
 use Rattle.whole_plan.specs.Serving.{start_of, ServesEveryPeriod, PlanServesEveryPeriod}
 use Rattle.whole_plan.proofs.Through.{few_bytes}
@@ -232,12 +232,9 @@ module _ (table : List ℕ) (bytes : Below 256 table) (whole : table_fault table
         same : (e f : Refusal) → ◌≡◌ {A = Result (Unit {0}) Refusal} (Err e) (Err f) → f ≡ e
         same e f h = cc
 
-        never : (e : Refusal) (u : Unit {0}) → ◌≡◌ {A = Result (Unit {0}) Refusal} (Err e) (Ok u) → ⊥
-        never e u h = let z : ◌≡◌ {A = ℕ} 0 1 = cc in omega arith
-
         go : (t u : Bool) → leb (tick_after planes ts) last_tick ≡ t → leb (plan_room planes b) space ≡ u
             → Err e ≡ unless t PastLastTick (unless u PlanBuffer (Ok (tt {0}))) → whole_plan table space ≡ Err e
-        go true true p q h = absurd (never e tt h)
+        go true true p q h = absurd (cc)
         go true false p q h = judged space p ∙ ap (λ t. unless t PlanBuffer (Ok (file planes))) q ∙ ap Err (same e PlanBuffer h)
         go false u p q h = late_whole space p ∙ ap Err (same e PastLastTick h)
 
@@ -245,9 +242,6 @@ module _ (table : List ℕ) (bytes : Below 256 table) (whole : table_fault table
     passes h = subst (λ k. Passed k space) (sym is)
         (go (leb (tick_after planes ts) last_tick) (leb (plan_room planes b) space) refl refl (h ∙ ap (λ k. planes_check k b tasks space) is))
       where
-        never : (e : Refusal) (u : Unit {0}) → ◌≡◌ {A = Result (Unit {0}) Refusal} (Ok u) (Err e) → ⊥
-        never e u h = let z : ◌≡◌ {A = ℕ} 0 1 = cc in omega arith
-
         go : (t u : Bool) → leb (tick_after planes ts) last_tick ≡ t → leb (plan_room planes b) space ≡ u
             → Ok (tt {0}) ≡ unless t PastLastTick (unless u PlanBuffer (Ok (tt {0}))) → Passed planes space
         go true true p q h =
@@ -260,5 +254,5 @@ module _ (table : List ℕ) (bytes : Below 256 table) (whole : table_fault table
               bounded = omega (arith, file_few planes, room_bounded);
               serves = serves p;
             }
-        go true false p q h = absurd (never PlanBuffer tt h)
-        go false u p q h = absurd (never PastLastTick tt h)
+        go true false p q h = absurd (cc)
+        go false u p q h = absurd (cc)

@@ -14,6 +14,7 @@ use Rattle.model.specs.Runs.{World, resting, Memory, with_tasks, answered, Run, 
 use Rattle.model.specs.Members.{In, here, there}
 use Rattle.model.proofs.Counts.{in_cons}
 use Rattle.model.proofs.Placing.{absent, length_placed}
+use Rattle.model.proofs.Processors.{kept_in}
 use Rattle.model.proofs.Resting.{Resting}
 use Rattle.model.proofs.Accepted.{Admitted, admitted_ok}
 use Rattle.model.proofs.Calls.{Inv, always}
@@ -42,15 +43,6 @@ in_right : {X : Type 0} {u : X} (xs ys : List X) → In u ys → In u (xs ++ ys)
 in_right [] ys i = i
 in_right (x ∷ xs) ys i = there (in_right xs ys i)
 
-kept_in : {X : Type 0} (p : X → Bool) {u : X} (xs : List X) → In u xs → p u ≡ true → In u (filter p xs)
-kept_in p [] i e = elim i [ ]
-kept_in p (x ∷ xs) here e = subst (λ b. In x (cond b (x ∷ filter p xs) (filter p xs))) (sym e) here
-kept_in p {u} (x ∷ xs) (there i) e = go (p x) (kept_in p xs i e)
-  where
-    go : (b : Bool) → In u (filter p xs) → In u (cond b (x ∷ filter p xs) (filter p xs))
-    go true j = there j
-    go false j = j
-
 -- a row that is placed stands there, and so do the others
 placed_there : (t : Task) (ts : List Task) → In t (placed t ts)
 placed_there t ts = in_right (filter (λ x. ltb x.tag t.tag) ts) _ here
@@ -58,8 +50,8 @@ placed_there t ts = in_right (filter (λ x. ltb x.tag t.tag) ts) _ here
 placed_others : (t u : Task) (ts : List Task) → has t.tag (tags ts) ≡ false → In u ts → In u (placed t ts)
 placed_others t u ts new i =
     ⊎_elim
-    (λ l. in_left (filter (λ x. ltb x.tag t.tag) ts) _ (kept_in (λ x. ltb x.tag t.tag) ts i (lt-ltb u.tag t.tag l)))
-    (λ g. in_right (filter (λ x. ltb x.tag t.tag) ts) _ (there (kept_in (λ x. ltb t.tag x.tag) ts i (lt-ltb t.tag u.tag (other g)))))
+    (λ l. in_left (filter (λ x. ltb x.tag t.tag) ts) _ (kept_in (λ x. ltb x.tag t.tag) u ts i (lt-ltb u.tag t.tag l)))
+    (λ g. in_right (filter (λ x. ltb x.tag t.tag) ts) _ (there (kept_in (λ x. ltb t.tag x.tag) u ts i (lt-ltb t.tag u.tag (other g)))))
     (cases_lt u.tag t.tag)
   where
     other : t.tag ≤ u.tag → t.tag < u.tag

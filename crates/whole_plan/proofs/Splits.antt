@@ -1,5 +1,5 @@
 -- All planes of a whole plan: where they go through, and what their segments add up to at each release.
-use Rattle.std.proofs.Common.{◌≡◌, ℕ, zero, suc, ◌+◌, ◌*◌, ◌<◌, ◌≤◌, Bool, true, false, cond, leb, List, [], ◌∷◌, ◌++◌, reverse, length, take, Ok, Err, filter, sym, refl, ap, ◌∙◌, subst, ⊎_elim, append_assoc, append-nil, mul-le-mul_left, arith}
+use Rattle.std.proofs.Common.{◌≡◌, ℕ, zero, suc, ◌+◌, ◌*◌, ◌<◌, ◌≤◌, Bool, true, false, leb, List, [], ◌∷◌, ◌++◌, reverse, length, take, Ok, Err, filter, sym, refl, ap, ◌∙◌, subst, ⊎_elim, append_assoc, append-nil, mul-le-mul_left, arith}
 use mathlib.Core.List.{reverse-cons}
 use Rattle.std.specs.List.{AllByRecursion}
 use Rattle.std.proofs.lemmas.List.Elements.{filter-append}
@@ -157,7 +157,7 @@ module _ (m q : ℕ) (b₀ : Rest) (memory : Memory) (opens : opened m q ≡ Ok 
 
     -- the first plane that ends past the last tick refuses all
     pub late : (k : ℕ) → leb (tick_after k ts) last_tick ≡ false → planes_planned k b u.tasks u.tokens ≡ Err PastLastTick
-    late zero h = absurd (let z : ◌≡◌ {A = ℕ} 0 1 = ap (λ b. cond b 0 1) h in omega arith)
+    late zero h = absurd (cc)
     late (suc k) h = go (leb (tick_after k ts) last_tick) refl (λ e. late k e)
       where
         go : (t : Bool) → leb (tick_after k ts) last_tick ≡ t → (leb (tick_after k ts) last_tick ≡ false → planes_planned k b u.tasks u.tokens ≡ Err PastLastTick)

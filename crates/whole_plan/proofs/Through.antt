@@ -1,7 +1,7 @@
 -- Planes one after the other: what the definitions give, whatever buffer the records go into.
 use Rattle.std.proofs.Common.{◌≡◌, ℕ, zero, suc, ◌+◌, ◌-◌, ◌*◌, ◌<◌, ◌≤◌, Bool, true, false, cond, eqb, List, [], ◌∷◌, ◌++◌, length, take, drop, replicate, is_ok, Ok, Err, Result, sym, refl, ap, ◌∙◌, subst, ⊎_elim, mul-le-mul_right, add-one, arith}
 use borrow.Rule.Slice.PartMut.{put_mid}
-use Rattle.std.proofs.lemmas.List.{length-append, length-replicate, length-take-le, take_at, drop_at, drop-drop, take-append-drop}
+use Rattle.std.proofs.lemmas.List.{length-append, length-replicate, length-take, length-take-le, take_at, drop_at, drop-drop, take-append-drop}
 use Rattle.std.proofs.lemmas.Bool.{cases_lt}
 use Rattle.rows.specs.declared.refusal.Refusal.{Refusal}
 use Rattle.rows.specs.declared.memory.Task.{Task}
@@ -21,12 +21,7 @@ use Rattle.whole_plan.proofs.Words.{value, then_ok, then_on}
 
 -- a record has its size at the most
 short_record : (m : ℕ) (s : Segment) → length (record_bytes m s) ≤ record_size m
-short_record m s = omega (arith, length_tag_bytes (take m s.row), front m s.row)
-  where
-    front : (m : ℕ) (xs : List ℕ) → length (take m xs) ≤ m
-    front zero xs = omega arith
-    front (suc m) [] = omega arith
-    front (suc m) (x ∷ xs) = omega (arith, front m xs)
+short_record m s = omega (arith, length_tag_bytes (take m s.row), length-take m s.row)
 
 short_records : (m : ℕ) (ss : List Segment) → length (records_bytes m ss) ≤ length ss * record_size m
 short_records m [] = omega arith
@@ -145,12 +140,9 @@ next_plane b tasks tokens i k done l ok e =
     both : planes_planned (suc i) b tasks tokens ≡ onward done (plane_planned done.0 tasks done.1)
     both = then_on _ e
 
-    never : (e : Refusal) → is_ok (onward done (Err e)) ≡ true → ⊥
-    never e h = let z : ◌≡◌ {A = ℕ} 0 1 = ap (λ b. cond b 1 0) h in omega arith
-
     go : (r : Result Planned Refusal) → plane_planned done.0 tasks done.1 ≡ r → is_ok (onward done r) ≡ true → Next b tasks tokens i done
     go (Ok one) f h = record { one = one; goes = f; all = ap (λ n. planes_planned n b tasks tokens) (add-one i) ∙ both ∙ then_on _ f }
-    go (Err e) f h = absurd (never e h)
+    go (Err e) f h = absurd (cc)
 
 -- Records behind those that stand in the buffer: the buffer `plan` was `first` before anything was written into it.
 pub more_records : (first plan part bytes : List ℕ) (at : ℕ) → at ≤ length plan → drop at plan ≡ drop at first
@@ -195,10 +187,7 @@ module _ {b₀ b : Rest} {tasks : List Task} {tokens₀ tokens : List Token} {fi
   goes_on = planned_into b tasks tokens one_more.one part one_more.goes (omega (arith, length_rest plan at, d.same, inside))
 
   pub no_refusal : (e : Refusal) → plane_into b tasks tokens part ≡ Err e → ⊥
-  no_refusal e h = let z : ◌≡◌ {A = ℕ} 0 1 = apart _ e (sym goes_on.into ∙ h) in omega arith
-    where
-      apart : {A : Type 0} (a : A) (e : Refusal) → ◌≡◌ {A = Result A Refusal} (Ok a) (Err e) → ◌≡◌ {A = ℕ} 0 1
-      apart a e h = cc
+  no_refusal e h = cc (sym goes_on.into ∙ h)
 
   module _ (x : Rest) (us : List Token) (written : List ℕ) (bytes : ℕ) (e : plane_into b tasks tokens part ≡ Ok ((x, us, written), bytes)) where
     abbrev o : Planned

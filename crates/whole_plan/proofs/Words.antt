@@ -1,11 +1,15 @@
 -- What the words of a contract tell: the result that is defined for a call, from the answer that it gave.
-use Rattle.std.proofs.Common.{◌≡◌, ℕ, Ok, Err, Result, sym, refl, ap, ◌∙◌, arith}
+use Rattle.std.proofs.Common.{◌≡◌, Ok, Err, Result, sym, refl, ap, ◌∙◌}
 use Rattle.rows.specs.declared.refusal.Refusal.{Refusal}
+use Rattle.rows.specs.declared.refused.Refused.{Refused}
 use Rattle.model.specs.Answers.{Answers, Changes, ChangesAnswering, MovesOver, Moves}
 use Rattle.whole_plan.specs.Planning.{and_then}
 
 pub paired : {A B : Type 0} {a c : A} {b d : B} → a ≡ c → b ≡ d → ◌≡◌ {A = A × B} (a, b) (c, d)
 paired {A} {B} {a} {c} {b} {d} p q = ap (λ x. (x, b)) p ∙ ap (λ y. (c, y)) q
+
+pub value : {A E : Type 0} (a b : A) → ◌≡◌ {A = Result A E} (Ok a) (Ok b) → a ≡ b
+value a b h = cc
 
 pub answers_ok : {A B : Type 0} (view : A → B) (a : A) (d : Result B Refusal) → Answers view (Ok a) d → d ≡ Ok (view a)
 answers_ok view a (Ok b) h = ap Ok (sym h)
@@ -38,8 +42,8 @@ pub moves_over_ok : {A B X Y M : Type 0} (from : A → X) (to : B → Y) (first 
 moves_over_ok from to first before (Ok r) b after h = ap Ok (sym (paired h.0 h.1))
 moves_over_ok from to first before (Err e) b after h = absurd h
 
-pub moves_over_err : {A B X Y M : Type 0} (from : A → X) (to : B → Y) (first : A) (before : M) (d : Result (Y × M) Refusal) (back : Refusal × A) (after : M)
-    → MovesOver from to first before d (Err back) after → d ≡ Err back.0
+pub moves_over_err : {A B X Y M : Type 0} (from : A → X) (to : B → Y) (first : A) (before : M) (d : Result (Y × M) Refusal) (back : Refused A) (after : M)
+    → MovesOver from to first before d (Err back) after → d ≡ Err back.why
 moves_over_err from to first before (Ok r) back after h = absurd h
 moves_over_err from to first before (Err e) back after h = ap Err (sym h.0)
 
@@ -47,21 +51,15 @@ pub moves_ok : {A B X Y : Type 0} (from : A → X) (to : B → Y) (first : A) (d
 moves_ok from to first (Ok y) b h = ap Ok (sym h)
 moves_ok from to first (Err e) b h = absurd h
 
-pub moves_err : {A B X Y : Type 0} (from : A → X) (to : B → Y) (first : A) (d : Result Y Refusal) (back : Refusal × A) → Moves from to first d (Err back) → d ≡ Err back.0
+pub moves_err : {A B X Y : Type 0} (from : A → X) (to : B → Y) (first : A) (d : Result Y Refusal) (back : Refused A) → Moves from to first d (Err back) → d ≡ Err back.why
 moves_err from to first (Ok y) back h = absurd h
 moves_err from to first (Err e) back h = ap Err (sym h.0)
 
 -- A chain of calls.
 
-pub value : {A E : Type 0} (a b : A) → ◌≡◌ {A = Result A E} (Ok a) (Ok b) → a ≡ b
-value a b h = cc
-
 pub then_ok : {A B : Type 0} (r : Result A Refusal) (next : A → Result B Refusal) (b : B) → and_then r next ≡ Ok b → (a : A) × (r ≡ Ok a) × (next a ≡ Ok b)
 then_ok (Ok a) next b h = (a, refl, h)
-then_ok (Err e) next b h = absurd (never b e h)
-  where
-    never : {B : Type 0} (b : B) (e : Refusal) → ◌≡◌ {A = Result B Refusal} (Err e) (Ok b) → ⊥
-    never b e h = let z : ◌≡◌ {A = ℕ} 0 1 = cc in omega arith
+then_ok (Err e) next b h = absurd (cc)
 
 pub then_on : {A B : Type 0} {r : Result A Refusal} {a : A} (next : A → Result B Refusal) → r ≡ Ok a → and_then r next ≡ next a
 then_on next h = ap (λ r. and_then r next) h

@@ -1,6 +1,5 @@
 -- The whole plan of a table: what the calls on a board give, one after the other.
-use Rattle.std.specs.Prelude.{ℕ, zero, suc, ◌+◌, ◌*◌, List, [], ◌∷◌, ◌++◌, map, length, take, drop, replicate, Ok, Err, Result, nat_le}
-use Rattle.std.specs.List.{range_with_len}
+use Rattle.std.specs.Prelude.{ℕ, zero, suc, ◌+◌, ◌*◌, List, [], ◌∷◌, ◌++◌, length, take, drop, replicate, Ok, Err, Result, nat_le}
 use Rattle.rows.specs.declared.refusal.Refusal.{Refusal}
 use Rattle.rows.specs.declared.refusal.Refusal.TheVariants.{PlanBuffer}
 use Rattle.rows.specs.declared.memory.Task.{Task}
@@ -11,7 +10,7 @@ use Rattle.plan_file.specs.Faults.{answered}
 use Rattle.plan_file.specs.Records.{record_size}
 use Rattle.plan_file.specs.Writing.{header_size, header_bytes}
 use Rattle.table_file.specs.declared.table.TableRow.{TableRow}
-use Rattle.table_file.specs.Tables.{table_fault, table_processors, table_scale, table_planes, table_count, table_row_at}
+use Rattle.table_file.specs.Tables.{table_fault, table_processors, table_scale, table_planes, table_rows}
 use Rattle.model.specs.State.{Rest, unless, opened, ended}
 use Rattle.model.specs.Tables.{zeros, admitted, started}
 use Rattle.model.specs.Planes.{finished}
@@ -20,10 +19,6 @@ use Rattle.model.specs.Planes.{finished}
 abbrev pub and_then : {A B : Type 0} → Result A Refusal → (A → Result B Refusal) → Result B Refusal
 and_then (Ok a) next = next a
 and_then (Err e) next = Err e
-
--- the rows of a table, in the order of the file
-abbrev pub table_rows : List ℕ → List TableRow
-table_rows table = map (table_row_at table) (range_with_len 0 (table_count table))
 
 -- the board and the task memory after the admission of rows, one after the other
 abbrev pub rows_admitted : Rest → List Task → List TableRow → Result (Rest × List Task) Refusal

@@ -6,9 +6,8 @@ use Rattle.plan_file.specs.Records.{Segment}
 use Rattle.plan_file.specs.Opening.{file_processors, file_scale}
 use Rattle.plan_file.specs.Files.{file_fault, file_segments}
 use Rattle.table_file.specs.declared.table.TableRow.{TableRow}
-use Rattle.table_file.specs.Tables.{table_processors, table_scale, table_planes}
+use Rattle.table_file.specs.Tables.{table_processors, table_scale, table_planes, table_rows}
 use Rattle.model.specs.Histories.{total}
-use Rattle.whole_plan.specs.Planning.{table_rows}
 
 -- the unit at which a segment starts: the lengths of those before it
 abbrev pub start_of : List Segment → ℕ → ℕ

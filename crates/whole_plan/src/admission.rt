@@ -1,8 +1,8 @@
 // A table's board with its tasks.
-ghost use Rattle.std.specs.Prelude.{◌≡◌, None, Ok, Err, MatchResult};
-ghost use Rattle.table_file.specs.Tables.{table_fault, table_processors, table_scale, table_count};
+ghost use Rattle.std.specs.Prelude.{◌≡◌, Ok, Err, MatchResult};
+ghost use Rattle.table_file.specs.Tables.{table_rows};
 ghost use Rattle.planner.specs.Views.{rest};
-ghost use Rattle.whole_plan.specs.Planning.{table_rows, rows_admitted, no_tasks, table_admitted};
+ghost use Rattle.whole_plan.specs.Planning.{rows_admitted, no_tasks, table_admitted};
 
 use planner::board::Board;
 use rows::memory::Task;
@@ -11,14 +11,9 @@ use table_file::table::Table;
 
 // Admits the rows of a table in the order of the file.
 fn admit_rows(table: &Table, board: &mut Board, tasks: &mut [Task]) -> Result<(), Refusal>
-    requires whole { table_fault table.now.bytes.now ≡ None }
-    requires count { table.now.count ≡ table_count table.now.bytes.now }
     ensures { MatchResult result (λ _. rows_admitted (rest board.old) tasks.old (table_rows table.now.bytes.now) ≡ Ok (rest board.new, tasks.new)) (λ e. rows_admitted (rest board.old) tasks.old (table_rows table.now.bytes.now) ≡ Err e) }
 {
-    for i in 0..table.count() {
-        let Some(row) = table.row(i) else {
-            unreachable()
-        };
+    for row in table.rows() {
         board.admit(tasks, row.tag, row.execution, row.period)?;
     }
     Ok(())
@@ -26,10 +21,6 @@ fn admit_rows(table: &Table, board: &mut Board, tasks: &mut [Task]) -> Result<()
 
 // Opens the board of a table and admits its rows, into task memory of zeros.
 pub(crate) fn set_up(table: &Table, tasks: &mut [Task]) -> Result<Board, Refusal>
-    requires whole { table_fault table.now.bytes.now ≡ None }
-    requires processors { table.now.processors ≡ table_processors table.now.bytes.now }
-    requires scale { table.now.scale ≡ table_scale table.now.bytes.now }
-    requires count { table.now.count ≡ table_count table.now.bytes.now }
     requires blank { tasks.old ≡ no_tasks }
     ensures { MatchResult result (λ board. table_admitted table.now.bytes.now ≡ Ok (rest board, tasks.new)) (λ e. table_admitted table.now.bytes.now ≡ Err e) }
 {

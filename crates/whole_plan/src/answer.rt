@@ -17,11 +17,12 @@ fn put(out: &mut [u8], text: &[u8]) -> usize
 }
 
 // Puts the line of a refusal at the front of `out`. No number has more than two digits.
+// By hand: a writer over lent bytes, for `write!`, would be longer than this.
 fn put_refusal(out: &mut [u8], refusal: Refusal) -> usize
     ensures answer { result ≡ length (fitted out.old (refused_line refusal)) }
     ensures bytes { out.new ≡ in_front (fitted out.old (refused_line refusal)) out.old }
 {
-    let number = refusal.number();
+    let number = u8::from(refusal);
     if number < 10 {
         let mut line = *b"refused 0\n";
         line[8] = b'0' + number;

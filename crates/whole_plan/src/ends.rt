@@ -1,5 +1,5 @@
 // The ends of the planes of a whole plan, known before any of them is run.
-ghost use Rattle.std.specs.Prelude.{◌≡◌, ℕ, ◌+◌, ◌<◌, ◌≤◌, length, take, nat_le};
+ghost use Rattle.std.specs.Prelude.{◌≡◌, ℕ, ◌+◌, ◌<◌, ◌≤◌, map, length, take, nat_le, Contains};
 ghost use Rattle.std.specs.List.{AllByRecursion};
 ghost use Rattle.rows.specs.Limits.{last_tick};
 ghost use Rattle.model.specs.Tables.{earliest};
@@ -7,37 +7,22 @@ ghost use Rattle.planner.specs.Views.{rest};
 ghost use Rattle.whole_plan.specs.Ends.{tick_after, Released, planes_check};
 
 use plan_file::header::HEADER_SIZE;
+use plan_file::record::record_size;
 use planner::board::Board;
+use planner::planes::earliest_release;
 use rows::limits::LAST_TICK;
 use rows::memory::Task;
 use rows::refusal::Refusal;
 
-// The earliest release after a tick of tasks that were released by then.
-fn plane_end(rows: &[Task], tick: u32) -> u64
-    requires some { 0 < length rows.now }
-    requires ready { AllByRecursion (Released tick) rows.now }
-    ensures value { result ≡ earliest tick rows.now }
-    ensures later { tick < result }
-{
-    let mut end = u64::MAX;
-    for task in rows {
-        let periods = (tick - task.release) as u64 / task.period as u64 + 1;
-        end = end.min(task.release as u64 + periods * task.period as u64);
-    }
-    end
-}
-
 // The shortest period: no plane is longer, wherever it starts.
 fn shortest(rows: &[Task]) -> u32
-    requires some { 0 < length rows.now }
-    requires ready { AllByRecursion (Released 0) rows.now }
-    ensures { (tick : ℕ) → earliest tick rows.now ≤ tick + result }
+    requires { 0 < length rows.now }
+    ensures { Contains (map (λ t. t.period) rows.now) result }
 {
-    let mut period = u32::MAX;
-    for task in rows {
-        period = period.min(task.period);
-    }
-    period
+    rows.iter()
+        .map(|task| task.period)
+        .min()
+        .unwrap_or(u32::MAX)
 }
 
 // Whether so many planes, the first from tick 0 on, end by the last tick.
@@ -52,7 +37,8 @@ fn end_in_time(rows: &[Task], planes: u16) -> bool
     }
     let mut tick = 0;
     for _plane in 0..planes {
-        let end = plane_end(rows, tick);
+        // all have been released by tick 0
+        let end = earliest_release(rows, tick).unwrap();
         if end > LAST_TICK as u64 {
             return false;
         }
@@ -77,7 +63,7 @@ pub(crate) fn check_planes(
     if !end_in_time(&tasks[0..count], planes) {
         return Err(Refusal::PastLastTick);
     }
-    let plane = (count + 1) * (9 + 2 * board.processors() as usize);
+    let plane = (count + 1) * record_size(board.processors());
     if room < HEADER_SIZE + planes as usize * plane {
         return Err(Refusal::PlanBuffer);
     }

@@ -7,14 +7,14 @@ ghost use Rattle.whole_plan.specs.Answering.{length_or_minus};
 use crate::whole::whole_plan;
 use rows::refusal::Refusal;
 
-// The length, or minus the number of the refusal.
+// The length, or minus the number of the refusal: C knows no `Result`.
 fn signed(answer: Result<usize, Refusal>) -> i64
     requires { IfOk answer (λ n. n < 2 ^ 63) }
     ensures { result ≡ length_or_minus answer }
 {
     match answer {
         Ok(length) => length as i64,
-        Err(refusal) => -i64::from(refusal.number()),
+        Err(refusal) => -i64::from(u8::from(refusal)),
     }
 }
 

@@ -10,12 +10,6 @@ use rows::memory::{Task, Token};
 use rows::refusal::Refusal;
 use rules::standard::LargestFirst;
 
-const NO_TOKEN: Token = Token {
-    tag: 0,
-    left: 0,
-    processor: 0,
-};
-
 // Runs one plane and writes its records; the board after it, and how many bytes they have.
 fn run_plane(
     board: Board,
@@ -25,15 +19,10 @@ fn run_plane(
 ) -> Result<(Board, usize), Refusal>
     ensures { MatchResult result (λ done. plane_into (rest board) tasks.now tokens.old plan.old ≡ Ok ((rest done.0, tokens.new, plan.new), done.1)) (λ e. plane_into (rest board) tasks.now tokens.old plan.old ≡ Err e) }
 {
-    let mut plane = match board.start(tasks, tokens) {
-        Ok(plane) => plane,
-        Err(back) => return Err(back.0),
-    };
+    let mut plane = board.start(tasks, tokens)?;
     let finished = plane.finish(tokens, &LargestFirst, plan)?;
-    match plane.end() {
-        Ok(board) => Ok((board, finished.bytes)),
-        Err(back) => Err(back.0),
-    }
+    let board = plane.end()?;
+    Ok((board, finished.bytes))
 }
 
 // Runs so many planes that are known to go through, and writes their records one directly behind the other.
@@ -43,7 +32,7 @@ fn run_planes(board: Board, tasks: &[Task], planes: u16, plan: &mut [u8]) -> Res
     ensures answer { result ≡ Ok (length (records (planes_planned planes (rest board) tasks.now no_tokens))) }
     ensures bytes { plan.new ≡ in_front (records (planes_planned planes (rest board) tasks.now no_tokens)) plan.old }
 {
-    let mut tokens = [NO_TOKEN; 256];
+    let mut tokens = [Token::default(); 256];
     let mut board = board;
     let mut at = 0;
     for _plane in 0..planes {

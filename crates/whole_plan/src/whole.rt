@@ -10,13 +10,6 @@ use rows::memory::Task;
 use rows::refusal::Refusal;
 use table_file::table::Table;
 
-const NO_TASK: Task = Task {
-    tag: 0,
-    execution: 0,
-    period: 0,
-    release: 0,
-};
-
 /// Writes the plan file of a table file at the front of `plan`, and answers its length. Bytes past it stay as they are.
 /// Refuses, and writes nothing, in this order: what is no table; processors or scale out of their limits; the first
 /// task that is not admitted; a plane that would end past the last tick; a buffer without room for one record more than
@@ -28,7 +21,7 @@ pub fn whole_plan(table: &[u8], plan: &mut [u8]) -> Result<usize, Refusal>
     ensures serves { IfOk result (λ n. PlanServesEveryPeriod table.now (take n plan.new)) }
 {
     let table = Table::open(table)?;
-    let mut tasks = [NO_TASK; 256];
+    let mut tasks = [Task::default(); 256];
     let board = set_up(&table, &mut tasks)?;
     let planes = table.planes();
     check_planes(&board, &tasks, planes, plan.len())?;

@@ -10,6 +10,7 @@ ghost use Rattle.whole_plan.specs.Answering.{length_or_minus};
 
 use whole_plan::export;
 
+// A static library is a crate of its own, so that the call stands twice and its promise with it.
 /// Makes the whole plan of a table for a caller in C: the length of the plan file, or minus the number of the refusal.
 #[unsafe(no_mangle)]
 pub extern "C" fn kiln_whole_plan(table: &[u8], plan: &mut [u8]) -> i64

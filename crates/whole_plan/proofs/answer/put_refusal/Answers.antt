@@ -7,11 +7,11 @@ use Rattle.whole_plan.proofs.answer.put_refusal.Goals as goal
 pub returns-then-number-lt10 : goal.returns-then-number-lt10
 returns-then-number-lt10 c =
     let out = c.args.out.now in
-    let e = one_digit_line c.args.refusal c.number-number.result c.number-number.ensures c.if-number-lt10.true in
+    let e = one_digit_line c.args.refusal c.from-number.result c.from-number.ensures c.if-number-lt10.true in
     record { answer = c.put.ensures.answer ∙ ap (λ l. length (fitted out l)) e; bytes = c.put.ensures.bytes ∙ ap (λ l. in_front (fitted out l) out) e }
 
 pub returns-else-number-lt10 : goal.returns-else-number-lt10
 returns-else-number-lt10 c =
     let out = c.args.out.now in
-    let e = two_digit_line c.args.refusal c.number-number.result c.number-number.ensures c.if-number-lt10.false in
+    let e = two_digit_line c.args.refusal c.from-number.result c.from-number.ensures c.if-number-lt10.false in
     record { answer = c.put-else-number-lt10.ensures.answer ∙ ap (λ l. length (fitted out l)) e; bytes = c.put-else-number-lt10.ensures.bytes ∙ ap (λ l. in_front (fitted out l) out) e }
