@@ -7,23 +7,10 @@ use rows::refusal::Refusal;
 use rules::standard::LargestFirst;
 use std::io;
 
-const NO_TASK: Task = Task {
-    tag: 0,
-    execution: 0,
-    period: 0,
-    release: 0,
-};
-
-const NO_TOKEN: Token = Token {
-    tag: 0,
-    left: 0,
-    processor: 0,
-};
-
 // The tasks 256 to 1, each in front of all before it.
 fn admit_all(board: &mut Board, tasks: &mut [Task]) -> Result<(), Refusal> {
-    for i in 0..256u16 {
-        board.admit(tasks, 256 - i, 1, 256)?;
+    for tag in (1..=256).rev() {
+        board.admit(tasks, tag, 1, 256)?;
     }
     Ok(())
 }
@@ -33,28 +20,28 @@ fn tell_plane_out(rt: &HostRuntime, mut plane: Plane, tokens: &mut [Token]) -> i
     let mut plan = [0; 2827];
     match plane.finish(tokens, &LargestFirst, &mut plan) {
         Ok(done) => tell(rt, Answer::Finished(done.steps, done.bytes))?,
-        Err(refusal) => tell(rt, Answer::Refused(refusal.number()))?,
+        Err(refusal) => tell(rt, refusal.into())?,
     }
     match plane.end() {
         Ok(board) => tell_rest(rt, &board),
-        Err(back) => tell(rt, Answer::Refused(back.0.number())),
+        Err(refused) => tell(rt, Refusal::from(refused).into()),
     }
 }
 
 fn tell_full_board(rt: &HostRuntime, mut board: Board) -> io::Result<()> {
-    let mut tasks = [NO_TASK; 257];
+    let mut tasks = [Task::default(); 257];
     if let Err(refusal) = admit_all(&mut board, &mut tasks) {
-        return tell(rt, Answer::Refused(refusal.number()));
+        return tell(rt, refusal.into());
     }
     tell_rest(rt, &board)?;
     let before = tasks;
     if let Err(refusal) = board.admit(&mut tasks, 257, 1, 256) {
         tell_refused(rt, refusal, tasks == before)?;
     }
-    let mut tokens = [NO_TOKEN; 256];
+    let mut tokens = [Token::default(); 256];
     match board.start(&tasks, &mut tokens) {
         Ok(plane) => tell_plane_out(rt, plane, &mut tokens),
-        Err(back) => tell(rt, Answer::Refused(back.0.number())),
+        Err(refused) => tell(rt, Refusal::from(refused).into()),
     }
 }
 
@@ -62,6 +49,6 @@ pub fn tell_full(rt: &HostRuntime) -> io::Result<()> {
     println!(rt; "\n256 tasks (1, 256): processors 1, scale 256")?;
     match Board::open(1, 256) {
         Ok(board) => tell_full_board(rt, board),
-        Err(refusal) => tell(rt, Answer::Refused(refusal.number())),
+        Err(refusal) => tell(rt, refusal.into()),
     }
 }

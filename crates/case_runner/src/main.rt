@@ -19,7 +19,6 @@ mod plans;
 mod play;
 mod tables;
 mod tell;
-mod text;
 mod upcoming;
 mod wholes;
 
@@ -60,7 +59,7 @@ fn openings(rt: &HostRuntime) -> io::Result<()> {
 // Sixteen planes, each by the same three lines.
 fn last_tick(rt: &HostRuntime) -> io::Result<()> {
     let script = scripts::longest_task();
-    let mut memory = Memory::new(script.rows);
+    let mut memory = Memory::new(rt.alloc(), script.rows)?;
     let Some(mut stage) = begin(rt, script, &mut memory)? else {
         return Ok(());
     };
@@ -72,19 +71,24 @@ fn last_tick(rt: &HostRuntime) -> io::Result<()> {
 }
 
 fn worked(rt: &HostRuntime) -> io::Result<()> {
-    play(rt, scripts::three_tasks_by_steps())?;
-    play(rt, scripts::three_tasks_by_a_finish())?;
-    play(rt, scripts::two_tasks_largest_first())?;
-    play(rt, scripts::two_tasks_ceiling_only())?;
-    play(rt, scripts::three_rules())?;
-    play(rt, scripts::eight_tasks())?;
-    play(rt, scripts::eight_tasks_on_three())?;
-    play(rt, scripts::admissions())?;
-    play(rt, scripts::full_memory())?;
-    play(rt, scripts::leaving())?;
-    play(rt, scripts::order_in_a_plane())?;
-    play(rt, scripts::other_task_memory())?;
-    play(rt, scripts::other_token_memory())
+    for script in [
+        scripts::three_tasks_by_steps(),
+        scripts::three_tasks_by_a_finish(),
+        scripts::two_tasks_largest_first(),
+        scripts::two_tasks_ceiling_only(),
+        scripts::three_rules(),
+        scripts::eight_tasks(),
+        scripts::eight_tasks_on_three(),
+        scripts::admissions(),
+        scripts::full_memory(),
+        scripts::leaving(),
+        scripts::order_in_a_plane(),
+        scripts::other_task_memory(),
+        scripts::other_token_memory(),
+    ] {
+        play(rt, script)?;
+    }
+    Ok(())
 }
 
 fn main(rt: HostRuntime) -> io::Result<()> {

@@ -1,8 +1,7 @@
 // Plan files, written and read.
 use crate::edit::Edit;
-use crate::old::{OLD_BYTE, OLD_TAGS, are_old};
-use crate::tell::{tell, tell_refused};
-use cases::script::Answer;
+use crate::old::{OLD_BYTE, OLD_TAGS, are_all};
+use crate::tell::{tell, tell_ran, tell_refused};
 use plan_file::header::write_header;
 use plan_file::reader::PlanReader;
 use plan_file::record::{RecordHead, write_record};
@@ -41,14 +40,14 @@ fn tell_plan(rt: &HostRuntime, what: &str, file: &[u8]) -> io::Result<()> {
     println!(rt; "{what}")?;
     let mut reader = match PlanReader::open(file) {
         Ok(reader) => reader,
-        Err(refusal) => return tell(rt, Answer::Refused(refusal.number())),
+        Err(refusal) => return tell(rt, refusal.into()),
     };
     for _ in 0..3 {
         let mut row = Row::new();
         let _ = row.fill(OLD_TAGS);
         let place = reader.place();
         match reader.next_record(&mut row) {
-            Ok(Some(head)) => tell(rt, Answer::Ran(head.length, head.kind, *row.places()))?,
+            Ok(Some(event)) => tell_ran(rt, event, &row)?,
             Ok(None) => println!(rt; "  none at byte {place}")?,
             Err(refusal) => {
                 let same = reader.place() == place && *row.places() == OLD_TAGS;
@@ -66,12 +65,12 @@ pub fn tell_written(rt: &HostRuntime, res: Result<usize, Refusal>, bytes: &[u8])
             let size = size.min(bytes.len());
             let written = &bytes[0..size];
             println!(rt; "  wrote {written:?}")?;
-            if !are_old(&bytes[size..]) {
+            if !are_all(&bytes[size..], &OLD_BYTE) {
                 println!(rt; "  but bytes past them have changed")?;
             }
             Ok(())
         }
-        Err(refusal) => tell_refused(rt, refusal, are_old(bytes)),
+        Err(refusal) => tell_refused(rt, refusal, are_all(bytes, &OLD_BYTE)),
     }
 }
 
@@ -114,7 +113,7 @@ fn tell_record(rt: &HostRuntime, record: &Record) -> io::Result<()> {
     println!(rt; "{what}")?;
     let mut row = Row::new();
     if let Err(refusal) = row.fill(record.4) {
-        return tell(rt, Answer::Refused(refusal.number()));
+        return tell(rt, refusal.into());
     }
     let mut bytes = [OLD_BYTE; 64];
     let result = record.write(&mut bytes, &row);

@@ -1,7 +1,6 @@
 // Plays scripts on a board, call by call, and tells each answer.
 use crate::memory::Memory;
 use crate::tell::{Numbers, tell_memory, tell_refused, tell_rest};
-use crate::text::Asked;
 use crate::{at_rest, in_plane};
 use cases::script::{Ask, Script};
 use planner::board::{Board, Plane};
@@ -23,9 +22,18 @@ fn ask_board(
 ) -> io::Result<Stage> {
     match ask {
         Ask::Admit(tag, execution, period) => {
-            at_rest::admit(rt, &mut board, memory, tag, execution, period)?;
+            at_rest::call(rt, &mut board, memory, |board, tasks| {
+                board.admit(tasks, tag, execution, period)
+            })?;
         }
-        Ask::Withdraw(tag) => at_rest::withdraw(rt, &mut board, memory, tag)?,
+        Ask::Withdraw(tag) => {
+            at_rest::call(
+                rt,
+                &mut board,
+                memory,
+                |board, tasks| board.withdraw(tasks, tag),
+            )?;
+        }
         Ask::Start => return at_rest::start(rt, board, memory),
         _ => {}
     }
@@ -49,8 +57,7 @@ fn ask_plane(
 }
 
 fn ask_one(rt: &HostRuntime, stage: Stage, memory: &mut Memory, ask: Ask) -> io::Result<Stage> {
-    let asked = Asked(ask);
-    println!(rt; "{asked}")?;
+    println!(rt; "{ask}")?;
     match ask {
         Ask::Bring(change) => memory.change(change),
         Ask::Show => tell_memory(rt, memory)?,
@@ -97,7 +104,7 @@ pub fn begin(rt: &HostRuntime, script: Script, memory: &mut Memory) -> io::Resul
 
 /// Plays a whole script.
 pub fn play(rt: &HostRuntime, script: Script) -> io::Result<()> {
-    let mut memory = Memory::new(script.rows);
+    let mut memory = Memory::new(rt.alloc(), script.rows)?;
     let _ = begin(rt, script, &mut memory)?;
     Ok(())
 }

@@ -29,16 +29,14 @@ fn tell_table(rt: &HostRuntime, what: &str, file: &[u8]) -> io::Result<()> {
     println!(rt; "{what}")?;
     let table = match Table::open(file) {
         Ok(table) => table,
-        Err(refusal) => return tell(rt, Answer::Refused(refusal.number())),
+        Err(refusal) => return tell(rt, refusal.into()),
     };
     let processors = table.processors();
     let scale = table.scale();
     let planes = table.planes();
     println!(rt; "  processors {processors}, scale {scale}, planes {planes}")?;
-    for i in 0..table.count() {
-        if let Some(row) = table.row(i) {
-            tell(rt, Answer::TaskRow(row.tag, row.execution, row.period, 0))?;
-        }
+    for row in table.rows() {
+        tell(rt, Answer::TaskRow(row.tag, row.execution, row.period, 0))?;
     }
     Ok(())
 }

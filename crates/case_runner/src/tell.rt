@@ -1,20 +1,20 @@
 // Telling answers.
 use crate::memory::Memory;
-use crate::text::Answered;
 use cases::script::Answer;
 use planner::board::{Board, Plane};
+use rows::event::Event;
 use rows::memory::Token;
 use rows::refusal::Refusal;
+use rows::row::Row;
 use std::io;
 
 pub fn tell(rt: &HostRuntime, answer: Answer) -> io::Result<()> {
-    let answered = Answered(answer);
-    println!(rt; "  {answered}")
+    println!(rt; "  {answer}")
 }
 
 /// A refusal, after which all has to be the same.
 pub fn tell_refused(rt: &HostRuntime, refusal: Refusal, same: bool) -> io::Result<()> {
-    tell(rt, Answer::Refused(refusal.number()))?;
+    tell(rt, refusal.into())?;
     if !same {
         println!(rt; "  but something has changed")?;
     }
@@ -28,9 +28,17 @@ pub fn tell_rest(rt: &HostRuntime, board: &Board) -> io::Result<()> {
     )
 }
 
+/// A segment and its row.
+pub fn tell_ran(rt: &HostRuntime, event: Event, row: &Row) -> io::Result<()> {
+    tell(
+        rt,
+        Answer::Ran(event.length, event.kind.into(), *row.places()),
+    )
+}
+
 fn tell_tokens(rt: &HostRuntime, tokens: &[Token]) -> io::Result<()> {
     for token in tokens {
-        tell(rt, Answer::TokenRow(token.tag, token.left, token.processor))?;
+        tell(rt, (*token).into())?;
     }
     Ok(())
 }
@@ -44,13 +52,10 @@ pub fn tell_plane(rt: &HostRuntime, plane: &Plane, count: u16, tokens: &[Token])
 
 /// All rows that are lent.
 pub fn tell_memory(rt: &HostRuntime, memory: &Memory) -> io::Result<()> {
-    for task in &memory.tasks[0..memory.task_rows()] {
-        tell(
-            rt,
-            Answer::TaskRow(task.tag, task.execution, task.period, task.release),
-        )?;
+    for task in &memory.tasks {
+        tell(rt, (*task).into())?;
     }
-    tell_tokens(rt, &memory.tokens[0..memory.token_rows()])
+    tell_tokens(rt, &memory.tokens)
 }
 
 /// The numbers of a board.
@@ -63,8 +68,8 @@ pub struct Numbers {
     pub load: u32,
 }
 
-impl Numbers {
-    pub fn of(board: &Board) -> Numbers {
+impl From<&Board> for Numbers {
+    fn from(board: &Board) -> Numbers {
         Numbers {
             processors: board.processors(),
             scale: board.scale(),

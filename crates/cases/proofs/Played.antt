@@ -1,5 +1,5 @@
 -- The calls of a script, one after the other, are a run.
-use Rattle.std.proofs.Common.{◌≡◌, true, List, [], ◌∷◌, replicate, Ok, Err, Result, sym, refl, subst, true≢false, arith, ltb-true}
+use Rattle.std.proofs.Common.{◌≡◌, true, List, [], ◌∷◌, replicate, Ok, Err, Result, refl, subst, arith, ltb-true}
 use Rattle.std.proofs.lemmas.Bool.{and_parts}
 use Rattle.std.proofs.lemmas.Bool.Decides.{nat_tests}
 use Rattle.rows.specs.declared.refusal.Refusal.{Refusal}
@@ -39,7 +39,7 @@ one {v} (resting b m h) Start ok run =
 one (resting b m h) (Step rule) ok run = run
 one (resting b m h) (Finish rule room) ok run = run
 one (resting b m h) End ok run = run
-one (resting b m h) (Bring change) ok run = absurd (true≢false (sym ok))
+one (resting b m h) (Bring change) ok run = cc
 one (resting b m h) Show ok run = run
 one (running p m h) (Admit tag execution period) ok run = run
 one (running p m h) (Withdraw tag) ok run = run
@@ -49,7 +49,7 @@ one {v} (running p m h) (Step rule) ok run =
 one {v} (running p m h) (Finish rule room) ok run =
     subst (Run v) (same (running p m h) _ (finished p m.tokens (key rule) (replicate room 0))) (then run (Runs.finish p m h (key rule) (law rule) (replicate room 0)))
 one {v} (running p m h) End ok run = subst (Run v) (same (running p m h) _ (ended p)) (then run (Runs.end p m h))
-one (running p m h) (Bring change) ok run = absurd (true≢false (sym ok))
+one (running p m h) (Bring change) ok run = cc
 one (running p m h) Show ok run = run
 
 more : {v : World} (w : World) (script : List Ask) → all is_call script ≡ true → Run v w → Run v (after w script)

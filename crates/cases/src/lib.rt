@@ -7,8 +7,10 @@
 ghost use Rattle.cases.specs.Playing.{ScriptsAreRuns};
 ghost use Rattle.cases.specs.Worked.{WorkedCasesComeOut, WorkedRunsAreCalls, WorkedReleasesAreAhead};
 
+mod choice;
 pub mod script;
 pub mod scripts;
+mod text;
 
 /// Each worked case comes out as it is written, line by line, and so do the releases ahead.
 pub fn worked_cases_come_out()

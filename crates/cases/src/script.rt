@@ -1,4 +1,11 @@
 // What a script asks of a board, and what it is answered.
+ghost use Rattle.std.specs.Prelude.{◌≡◌};
+ghost use Rattle.rows.specs.Refusals.{refusal_number};
+ghost use Rattle.cases.specs.Playing.{task_row, token_row};
+ghost use Rattle.cases.specs.declared.script.Answer.TheVariants.{Refused};
+
+use rows::memory::{Task, Token};
+use rows::refusal::Refusal;
 
 /// A choosing rule, by its name.
 #[derive(Clone, Copy)]
@@ -37,7 +44,7 @@ pub enum Ask {
     Show,
 }
 
-/// A line of what a script is answered.
+/// A line of what a script is answered. Kinds and refusals stand in it by the numbers that files and callers in C see.
 #[derive(Clone, Copy)]
 pub enum Answer {
     /// A board at rest: its tick, its count of tasks and its load.
@@ -54,6 +61,30 @@ pub enum Answer {
     TokenRow(u16, u64, u8),
     /// A refusal, by its number.
     Refused(u8),
+}
+
+impl From<Task> for Answer {
+    ghost from_gives = { λ task answer. answer ≡ task_row task };
+
+    fn from(task: Task) -> Answer {
+        Answer::TaskRow(task.tag, task.execution, task.period, task.release)
+    }
+}
+
+impl From<Token> for Answer {
+    ghost from_gives = { λ token answer. answer ≡ token_row token };
+
+    fn from(token: Token) -> Answer {
+        Answer::TokenRow(token.tag, token.left, token.processor)
+    }
+}
+
+impl From<Refusal> for Answer {
+    ghost from_gives = { λ refusal answer. answer ≡ Refused (refusal_number refusal) };
+
+    fn from(refusal: Refusal) -> Answer {
+        Answer::Refused(refusal.into())
+    }
 }
 
 /// A board to open, task and token memory of so many rows each, and what is then asked.

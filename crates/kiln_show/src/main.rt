@@ -16,9 +16,8 @@ use line::Line;
 const LONGEST_FILE: u64 = 1048576;
 
 fn show_fault(rt: &HostRuntime, refusal: Refusal, place: usize) -> io::Result<()> {
-    let number = refusal.number();
-    let words = refusal.words();
-    println!(rt; "fault {number} at byte {place}: {words}")
+    let number = u8::from(refusal);
+    println!(rt; "fault {number} at byte {place}: {refusal}")
 }
 
 fn show_records(rt: &HostRuntime, mut reader: PlanReader) -> io::Result<()> {
@@ -28,15 +27,15 @@ fn show_records(rt: &HostRuntime, mut reader: PlanReader) -> io::Result<()> {
     let mut start: u128 = 0;
     loop {
         match reader.next_record(&mut row) {
-            Ok(Some(head)) => {
+            Ok(Some(event)) => {
                 let line = Line {
                     start,
-                    head,
+                    event,
                     row: &row,
                     processors,
                 };
                 println!(rt; "{line}")?;
-                start = start.saturating_add(u128::from(head.length));
+                start = start.saturating_add(u128::from(event.length));
             }
             Ok(None) => return Ok(()),
             Err(refusal) => return show_fault(rt, refusal, reader.place()),

@@ -1,5 +1,5 @@
 use Rattle.std.proofs.Common.{◌-◌, length}
 use Rattle.kiln_show.proofs.show_records.Given as goal
 
-abbrev pub decreases-loop-head : goal.decreases-loop-head
-decreases-loop-head l = length l.reader.bytes.now - l.reader.place
+abbrev pub decreases-loop-event : goal.decreases-loop-event
+decreases-loop-event l = length l.reader.bytes.now - l.reader.place

@@ -1,22 +1,20 @@
 // What is asked and answered, as lines of text.
-use cases::script::{Answer, Ask, Change, Choice};
+use crate::script::{Answer, Ask, Change, Choice};
 use std::fmt;
 
-fn rule_words(choice: Choice) -> &'static str {
-    match choice {
-        Choice::LargestFirst => "largest first",
-        Choice::CeilingOnly => "ceiling only",
-        Choice::Stayers => "stayers",
+impl fmt::Display for Choice {
+    fn fmt<W: fmt::Write>(&self, f: &mut fmt::Formatter<W>) -> fmt::Result {
+        f.write_str(match self {
+            Choice::LargestFirst => "largest first",
+            Choice::CeilingOnly => "ceiling only",
+            Choice::Stayers => "stayers",
+        })
     }
 }
 
-/// What a caller brings.
-#[derive(Drop)]
-struct Brought(Change);
-
-impl fmt::Display for Brought {
+impl fmt::Display for Change {
     fn fmt<W: fmt::Write>(&self, f: &mut fmt::Formatter<W>) -> fmt::Result {
-        match self.0 {
+        match self {
             Change::Only(tasks, tokens) => {
                 write!(f, "bring only {tasks} task rows, {tokens} token rows")
             }
@@ -33,41 +31,24 @@ impl fmt::Display for Brought {
     }
 }
 
-/// What is asked.
-#[derive(Drop)]
-pub struct Asked(pub Ask);
-
-impl fmt::Display for Asked {
+impl fmt::Display for Ask {
     fn fmt<W: fmt::Write>(&self, f: &mut fmt::Formatter<W>) -> fmt::Result {
-        match self.0 {
+        match self {
             Ask::Admit(tag, execution, period) => write!(f, "admit {tag} ({execution}, {period})"),
             Ask::Withdraw(tag) => write!(f, "withdraw {tag}"),
             Ask::Start => write!(f, "start"),
-            Ask::Step(choice) => {
-                let rule = rule_words(choice);
-                write!(f, "step, {rule}")
-            }
-            Ask::Finish(choice, room) => {
-                let rule = rule_words(choice);
-                write!(f, "finish, {rule}, {room} bytes")
-            }
+            Ask::Step(choice) => write!(f, "step, {choice}"),
+            Ask::Finish(choice, room) => write!(f, "finish, {choice}, {room} bytes"),
             Ask::End => write!(f, "end"),
-            Ask::Bring(change) => {
-                let brought = Brought(change);
-                write!(f, "{brought}")
-            }
+            Ask::Bring(change) => write!(f, "{change}"),
             Ask::Show => write!(f, "show"),
         }
     }
 }
 
-/// What is answered.
-#[derive(Drop)]
-pub struct Answered(pub Answer);
-
-impl fmt::Display for Answered {
+impl fmt::Display for Answer {
     fn fmt<W: fmt::Write>(&self, f: &mut fmt::Formatter<W>) -> fmt::Result {
-        match self.0 {
+        match self {
             Answer::AtRest(tick, count, load) => {
                 write!(f, "at rest: tick {tick}, tasks {count}, load {load}")
             }
