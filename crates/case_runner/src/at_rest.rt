@@ -9,7 +9,12 @@ use rows::refused::Refused;
 use std::io;
 
 /// Makes a call on the board and its task memory, and tells what it answers. A refusal has to leave all as it was.
-pub fn call<F>(rt: &HostRuntime, board: &mut Board, memory: &mut Memory, make: F) -> io::Result<()>
+pub(crate) fn call<F>(
+    rt: &HostRuntime,
+    board: &mut Board,
+    memory: &mut Memory,
+    make: F,
+) -> io::Result<()>
 where
     F: FnOnce(&mut Board, &mut [Task]) -> Result<(), Refusal>,
     requires { F.IsAlwaysCallable make }

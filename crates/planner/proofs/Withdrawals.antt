@@ -108,11 +108,6 @@ stands b memory fits tag (Some i) h =
       weighs = row_weight b memory fits i inside;
     }
 
--- a row that was found
-pub stood : (b : Rest) (memory : List Task) (tag : ℕ) (r : Option ℕ) → MatchOption r (found tag (take b.count memory) ≡ None) (Stands b memory tag)
-    → (i : ℕ) → r ≡ Some i → Stands b memory tag i
-stood b memory tag r h i is = subst (λ o. MatchOption o (found tag (take b.count memory) ≡ None) (Stands b memory tag)) is h
-
 -- a change that was made as it is defined
 pub changed : {S : Type 0} (before after s : S) (r : Result S Refusal) → r ≡ Ok s → after ≡ s → Changes before r (Ok tt) after
 changed before after s r e same = subst (λ d. Changes before d (Ok tt) after) (sym e) same
