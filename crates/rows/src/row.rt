@@ -17,7 +17,7 @@ fn are_distinct(tags: &[u16]) -> bool
     ensures { result ≡ distinct tags.now }
 {
     for (i, tag) in tags.iter().enumerate() {
-        if *tag != 0 && tags[i + 1..].contains(tag) {
+        if *tag != 0 && tags[i + 1..].iter().any(|other| other == tag) {
             return false;
         }
     }
