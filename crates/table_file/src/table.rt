@@ -155,7 +155,14 @@ impl<'a> Table<'a> {
     pub fn row(&self, i: u16) -> Option<TableRow>
         ensures { result ≡ table_row self.now.bytes.now i }
     {
-        self.rows().nth(usize::from(i))
+        let place = HEADER_SIZE + ROW_SIZE * usize::from(i);
+        if self.bytes.len() < place + ROW_SIZE {
+            return None;
+        }
+        let [t1, t2, c1, c2, c3, c4, p1, p2, p3, p4, ..] = &self.bytes[place..] else {
+            return None;
+        };
+        Some(TableRow::from(&[*t1, *t2, *c1, *c2, *c3, *c4, *p1, *p2, *p3, *p4]))
     }
 
     /// The rows, in the order of the file.
