@@ -20,8 +20,9 @@ where
     requires { F.IsAlwaysCallable make }
 {
     let were = Numbers::from(&*board);
-    let before = memory.clone()?;
-    match make(board, &mut memory.tasks) {
+    let before = *memory;
+    let rows = memory.task_rows();
+    match make(board, &mut memory.tasks[0..rows]) {
         Ok(()) => tell_rest(rt, board),
         Err(refusal) => {
             let same = Numbers::from(&*board) == were && *memory == before;
@@ -32,10 +33,12 @@ where
 
 pub fn start(rt: &HostRuntime, board: Board, memory: &mut Memory) -> io::Result<Stage> {
     let were = Numbers::from(&board);
-    let before = memory.clone()?;
-    match board.start(&memory.tasks, &mut memory.tokens) {
+    let before = *memory;
+    let tasks = memory.tasks_copied();
+    let rows = memory.token_rows();
+    match board.start(&tasks[0..memory.task_rows()], &mut memory.tokens[0..rows]) {
         Ok(plane) => {
-            tell_plane(rt, &plane, were.count, &memory.tokens)?;
+            tell_plane(rt, &plane, were.count, &memory.tokens[0..rows])?;
             Ok(Stage::Open(plane, were))
         }
         Err(Refused { why, back: board }) => {

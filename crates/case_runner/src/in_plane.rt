@@ -21,8 +21,9 @@ pub fn step(
     let mut row = Row::new();
     let _ = row.fill(OLD_TAGS);
     let were = (plane.end_tick(), plane.span());
-    let before = memory.clone()?;
-    match plane.step(&mut memory.tokens, &choice, &mut row) {
+    let before = *memory;
+    let rows = memory.token_rows();
+    match plane.step(&mut memory.tokens[0..rows], &choice, &mut row) {
         Ok(event) => tell_ran(rt, event, &row),
         Err(refusal) => {
             let same = (plane.end_tick(), plane.span()) == were
@@ -62,9 +63,14 @@ pub fn finish(
     let mut file = [OLD_BYTE; 256];
     let _ = write_header(&mut file, board.processors, board.scale);
     let were = (plane.end_tick(), plane.span());
-    let before = memory.clone()?;
+    let before = *memory;
+    let rows = memory.token_rows();
     let end = (HEADER_SIZE + usize::from(room)).min(256);
-    match plane.finish(&mut memory.tokens, &choice, &mut file[HEADER_SIZE..end]) {
+    match plane.finish(
+        &mut memory.tokens[0..rows],
+        &choice,
+        &mut file[HEADER_SIZE..end],
+    ) {
         Ok(done) => tell_finished(rt, done, &file),
         Err(refusal) => {
             let same = (plane.end_tick(), plane.span()) == were

@@ -59,7 +59,7 @@ fn openings(rt: &HostRuntime) -> io::Result<()> {
 // Sixteen planes, each by the same three lines.
 fn last_tick(rt: &HostRuntime) -> io::Result<()> {
     let script = scripts::longest_task();
-    let mut memory = Memory::new(rt.alloc(), script.rows)?;
+    let mut memory = Memory::new(script.rows);
     let Some(mut stage) = begin(rt, script, &mut memory)? else {
         return Ok(());
     };

@@ -104,7 +104,7 @@ pub fn begin(rt: &HostRuntime, script: Script, memory: &mut Memory) -> io::Resul
 
 /// Plays a whole script.
 pub fn play(rt: &HostRuntime, script: Script) -> io::Result<()> {
-    let mut memory = Memory::new(rt.alloc(), script.rows)?;
+    let mut memory = Memory::new(script.rows);
     let _ = begin(rt, script, &mut memory)?;
     Ok(())
 }

@@ -52,10 +52,10 @@ pub fn tell_plane(rt: &HostRuntime, plane: &Plane, count: u16, tokens: &[Token])
 
 /// All rows that are lent.
 pub fn tell_memory(rt: &HostRuntime, memory: &Memory) -> io::Result<()> {
-    for task in &memory.tasks {
+    for task in &memory.tasks[0..memory.task_rows()] {
         tell(rt, (*task).into())?;
     }
-    tell_tokens(rt, &memory.tokens)
+    tell_tokens(rt, &memory.tokens[0..memory.token_rows()])
 }
 
 /// The numbers of a board.
