@@ -82,16 +82,13 @@ fn add_up<J: Judge>(judge: &J, rows: &[J::Row]) -> Option<u64>
     Some(sum)
 }
 
-// What the first rows of memory add up to, so many as are asked for, or none where they are not there, not in order of
-// tag, or not each sound.
+// What the first rows of memory add up to, so many as are asked for, or none where they are not there or not each sound.
 fn total<J: Judge>(judge: &J, memory: &[J::Row], count: u16) -> Option<u64>
     requires { count ≤ 256 }
-    ensures sum { let rows = take count memory.now in result ≡ (if nat_le count (length memory.now) && rising (map J.Row.ordinal rows) && all (J.is_sound judge.now) rows then Some (sum_by (J.amount judge.now) rows) else None) }
+    ensures sum { let rows = take count memory.now in result ≡ (if nat_le count (length memory.now) && all (J.is_sound judge.now) rows then Some (sum_by (J.amount judge.now) rows) else None) }
     ensures tags { is_some result ≡ true → AllByRecursion (λ x. J.Row.ordinal x < 2 ^ 16) (take count memory.now) }
 {
-    let rows = memory.get(..count as usize)?;
-    let sum = add_up(judge, rows)?;
-    if is_rising(rows) { Some(sum) } else { None }
+    add_up(judge, memory.get(..count as usize)?)
 }
 
 impl Board {
@@ -99,7 +96,11 @@ impl Board {
     pub(crate) fn tasks_fit(&self, tasks: &[Task]) -> bool
         ensures { result ≡ tasks_fit (rest self.now) tasks.now }
     {
-        total(self, tasks, self.count).is_some_and(|load| load == self.load as u64)
+        let Some(load) = total(self, tasks, self.count) else {
+            return false;
+        };
+        let rows = &tasks[..self.count as usize];
+        load == self.load as u64 && is_rising(rows)
     }
 }
 
@@ -113,8 +114,10 @@ impl Plane {
         let Some(left) = total(self, tokens, self.board.count) else {
             return false;
         };
+        let rows = &tokens[..self.board.count as usize];
         left <= self.board.processors as u64 * self.span
-            && processors_differ(&tokens[..self.board.count as usize])
+            && is_rising(rows)
+            && processors_differ(rows)
     }
 }
 
