@@ -46,12 +46,15 @@ pub fn read_header(file: &[u8]) -> Result<Header, Refusal>
     if file.len() < HEADER_SIZE {
         return Err(Refusal::PlanShort);
     }
-    let [b'K', b'P', b'L', v1, v2, processors, q1, q2, q3, q4, ..] = file else {
+    let [b'K', b'P', b'L', v1, v2, rest @ ..] = file else {
         return Err(Refusal::Mark);
     };
     if u16::from_be_bytes([*v1, *v2]) != VERSION {
         return Err(Refusal::Version);
     }
+    let [processors, q1, q2, q3, q4, ..] = rest else {
+        return Err(Refusal::PlanShort);
+    };
     let header = Header {
         processors: *processors,
         scale: u32::from_be_bytes([*q1, *q2, *q3, *q4]),

@@ -4,7 +4,7 @@ ghost use Rattle.rows.specs.Tests.{all};
 ghost use Rattle.plan_file.specs.Bytes.{be64};
 ghost use Rattle.plan_file.specs.Records.{record_size, record_bytes, tag_bytes};
 ghost use Rattle.plan_file.specs.Faults.{answered};
-ghost use Rattle.plan_file.specs.Heads.{segment};
+ghost use Rattle.plan_file.specs.Heads.{segment, head_fault};
 ghost use Rattle.plan_file.specs.Writing.{write_fault};
 ghost use Rattle.plan_file.specs.RoundTrip.{ReadsAs};
 
@@ -20,6 +20,16 @@ pub struct RecordHead {
     pub length: u64,
     // a number and no `Kind`: any may be asked to be written, and one that is none is refused
     pub kind: u8,
+}
+
+impl RecordHead {
+    /// Refuses a length or a kind that is out of its limits.
+    pub fn check(self) -> Result<(), Refusal>
+        ensures { result ≡ answered (head_fault self) tt }
+    {
+        Event::try_from(self)?;
+        Ok(())
+    }
 }
 
 impl From<Event> for RecordHead {
@@ -105,7 +115,7 @@ fn check_record(processors: u8, head: RecordHead, row: &Row, room: usize) -> Res
     ensures { result ≡ answered (write_fault processors (segment head row.now.places) room) tt }
 {
     check_processors(processors)?;
-    Event::try_from(head)?;
+    head.check()?;
     if !all_zero(&row.places()[usize::from(processors)..]) {
         return Err(Refusal::TagPastProcessors);
     }

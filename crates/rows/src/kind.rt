@@ -1,6 +1,6 @@
 // How a segment ends.
 ghost use Rattle.std.specs.Prelude.{◌≡◌, Some};
-ghost use Rattle.rows.specs.Kinds.{kind_number, kind_or_refusal};
+ghost use Rattle.rows.specs.Kinds.{kind_number, kind_of, kind_or_refusal};
 ghost use Rattle.rows.specs.Words.{kind_words};
 
 use crate::refusal::Refusal;
@@ -44,17 +44,18 @@ impl TryFrom<u8> for Kind {
 }
 
 impl Kind {
-    /// What happened at the end of the segment, in words.
-    pub fn words(self) -> &'static str
-        ensures { result.now ≡ kind_words self }
+    /// Its number in a plan file.
+    pub fn number(self) -> u8
+        ensures { result ≡ kind_number self }
     {
-        match self {
-            Kind::Bottom => "a running task is done for this plane",
-            Kind::Ceiling => "a waiting task must run from here on",
-            Kind::Both =>
-                "a running task is done for this plane and a waiting one must run from here on",
-            Kind::PlaneEnd => "the plane is over",
-        }
+        self.into()
+    }
+
+    /// The kind of that number, if there is one.
+    pub fn from_number(number: u8) -> Option<Kind>
+        ensures { result ≡ kind_of number }
+    {
+        Kind::try_from(number).ok()
     }
 }
 

@@ -11,3 +11,4 @@ pub mod memory;
 pub mod refusal;
 pub mod refused;
 pub mod row;
+pub mod words;
