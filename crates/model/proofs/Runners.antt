@@ -27,6 +27,9 @@ counted p a zero l h = absurd (omega arith)
 counted p a (suc n) l h =
     ⊎_elim (in_first p a (range_with_len (a + 1) n)) (λ e. there (counted p (a + 1) n (omega arith) (omega arith))) (cases_eq p a)
 
+pub above : (p a n : ℕ) → In p (range_with_len a n) → a ≤ p
+above p a n i = (in_all (λ q. (a ≤ q) × (q < a + n)) (within a n) i).0
+
 -- tokens of which no two share a processor
 module _ (us : List Token) (own : (u v : Token) → In u us → In v us → u.processor ≡ v.processor → (u.processor ≡ 0 → ⊥) → u.tag ≡ v.tag) where
   pub from : (vs : List Token) (p : ℕ) → (runner vs p ≡ 0) ⊎ ((u : Token) × In u vs × (u.processor ≡ p) × (runner vs p ≡ u.tag))

@@ -136,7 +136,7 @@ module _ {m : ℕ} {key : Key} {law : Lawful key} {span : ℕ} {ts : List Token}
       pub room : at + record_size m ≤ length plan
       room = omega (arith, long, enough, was.sized, was.placed)
 
-      writes : write_fault m s (length plan - at) ≡ None
+      pub writes : write_fault m s (length plan - at) ≡ None
       writes = fault_free m s (length plan - at) good.fits.faultless (omega (arith, room))
 
       -- so the writer answers where the next record goes

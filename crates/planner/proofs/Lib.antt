@@ -1,4 +1,5 @@
 pub mod Weights
+pub mod Admissions
 pub mod Marks
 pub mod Shifts
 pub mod Withdrawals

@@ -91,7 +91,7 @@ module _ {m : ℕ} {key : Key} {law : Lawful key} {span : ℕ} {ts : List Token}
     abbrev now : List Token
     now = map (seated places) rows
 
-    units_is : units ≡ (step m key left now).segment.units
+    pub units_is : units ≡ (step m key left now).segment.units
     units_is = ap (λ (s : Segment). s.units) told.segment
 
     pub some_run : 0 < units

@@ -1,4 +1,5 @@
 pub mod Words
+pub mod Admits
 pub mod Earliest
 pub mod Through
 pub mod Reached
